@@ -17,7 +17,7 @@ use Rattle.js_direct.proofs.Lists.{before_then, goes_both, goes_then, left_no_va
 use Rattle.js_direct.proofs.Parts.{before_it, gives, more, part_passes, part_then, part_waits, unit_first}
 use Rattle.js_image.proofs.Grown.{fine_stays, held_stays, kept_same, seen_stays}
 use Rattle.js_image.specs.Held.{AreFine, IsFine, IsHeld, ArePairs}
-use Rattle.js_flow.specs.Fine.{FineAssigning, FineFrame, IsExprAt, FineCompletion, FineNames}
+use Rattle.js_flow.specs.Fine.{FineAssigning, FineFrame, IsExprAt, FineCompletion, FineNames, IsStmtAt}
 use Rattle.js_flow.specs.Frames.{taken}
 use Rattle.js_direct.specs.declared.run.Ended.{Ended}
 use Rattle.js_direct.specs.Comes.{Comes, ended_as, target_as, ComesTo, IsReady}
@@ -1988,7 +1988,7 @@ choosing::clauses_on-any_on-requires t c = (
         let fine_out = end_fine fs w s1 s2 0 p c.tests.run c.eval_on.new.run ended.Is (ended_as ended.Is out) one tt in
         let ready = end_ready fs w s1 s2 0 p c.tests.run c.eval_on.new.run ended.Is (ended_as ended.Is out) one tt inv.0.ready kept in
         let fine_v = fine_stays w s1.cells s2.cells kept.grows v inv.3 in
-        let placed = (place_fine fs w s1.cells s2.cells kept.grows at inv.2.0, inv.2.1) in
+        let placed : IsStmtAt fs w s2.cells id at = (place_fine fs w s1.cells s2.cells kept.grows at inv.2.0, inv.2.1) in
         let same : c.is_chosen.result ≡ operators.is_same (seen w s2.cells v) (seen w s2.cells out) = c.is_chosen.ensures.same w s2.cells fine_v fine_out in
         let after_test : (s : State) → clause_tested (seen w s2.cells v) all (drop next.at all) (place_of w s2.cells at) (meaning.Is (seen w s2.cells out)) s
         ≡ (if c.is_chosen.result then statements (bodies (drop next.at all)) (place_of w s2.cells at) s else choose_case (seen w s2.cells v) all (drop (next.at + 1) all) (place_of w s2.cells at) s) =
@@ -2027,7 +2027,7 @@ choosing::clauses_on-any_on-requires t c = (
           let fine_out = end_fine fs w s1 s2 0 p c.tests.run c.eval_on.new.run ended.Is (ended_as ended.Is out) one tt in
           let ready = end_ready fs w s1 s2 0 p c.tests.run c.eval_on.new.run ended.Is (ended_as ended.Is out) one tt inv.0.ready kept in
           let fine_v = fine_stays w s1.cells s2.cells kept.grows v inv.3 in
-          let placed = (place_fine fs w s1.cells s2.cells kept.grows at inv.2.0, inv.2.1) in
+          let placed : IsStmtAt fs w s2.cells id at = (place_fine fs w s1.cells s2.cells kept.grows at inv.2.0, inv.2.1) in
           let same : c.is_chosen.result ≡ operators.is_same (seen w s2.cells v) (seen w s2.cells out) = c.is_chosen.ensures.same w s2.cells fine_v fine_out in
           let after_test : (s : State) → clause_tested (seen w s2.cells v) all (drop next.at all) (place_of w s2.cells at) (meaning.Is (seen w s2.cells out)) s
           ≡ (if c.is_chosen.result then statements (bodies (drop next.at all)) (place_of w s2.cells at) s else choose_case (seen w s2.cells v) all (drop (next.at + 1) all) (place_of w s2.cells at) s) =
@@ -2071,7 +2071,7 @@ choosing::clauses_on-returns-then-is_chosen t c =
     let fine_out = end_fine fs w s1 s2 0 p c.tests.run c.eval_on.new.run ended.Is (ended_as ended.Is out) one tt in
     let ready = end_ready fs w s1 s2 0 p c.tests.run c.eval_on.new.run ended.Is (ended_as ended.Is out) one tt inv.0.ready kept in
     let fine_v = fine_stays w s1.cells s2.cells kept.grows v inv.3 in
-    let placed = (place_fine fs w s1.cells s2.cells kept.grows at inv.2.0, inv.2.1) in
+    let placed : IsStmtAt fs w s2.cells id at = (place_fine fs w s1.cells s2.cells kept.grows at inv.2.0, inv.2.1) in
     let same : c.is_chosen.result ≡ operators.is_same (seen w s2.cells v) (seen w s2.cells out) = c.is_chosen.ensures.same w s2.cells fine_v fine_out in
     let after_test : (s : State) → clause_tested (seen w s2.cells v) all (drop next.at all) (place_of w s2.cells at) (meaning.Is (seen w s2.cells out)) s
     ≡ (if c.is_chosen.result then statements (bodies (drop next.at all)) (place_of w s2.cells at) s else choose_case (seen w s2.cells v) all (drop (next.at + 1) all) (place_of w s2.cells at) s) =
@@ -2121,7 +2121,7 @@ choosing::clauses_on-tests-preserved t c =
     let fine_out = end_fine fs w s1 s2 0 p c.tests.run c.eval_on.new.run ended.Is (ended_as ended.Is out) one tt in
     let ready = end_ready fs w s1 s2 0 p c.tests.run c.eval_on.new.run ended.Is (ended_as ended.Is out) one tt inv.0.ready kept in
     let fine_v = fine_stays w s1.cells s2.cells kept.grows v inv.3 in
-    let placed = (place_fine fs w s1.cells s2.cells kept.grows at inv.2.0, inv.2.1) in
+    let placed : IsStmtAt fs w s2.cells id at = (place_fine fs w s1.cells s2.cells kept.grows at inv.2.0, inv.2.1) in
     let same : c.is_chosen.result ≡ operators.is_same (seen w s2.cells v) (seen w s2.cells out) = c.is_chosen.ensures.same w s2.cells fine_v fine_out in
     let after_test : (s : State) → clause_tested (seen w s2.cells v) all (drop next.at all) (place_of w s2.cells at) (meaning.Is (seen w s2.cells out)) s
     ≡ (if c.is_chosen.result then statements (bodies (drop next.at all)) (place_of w s2.cells at) s else choose_case (seen w s2.cells v) all (drop (next.at + 1) all) (place_of w s2.cells at) s) =
@@ -2167,7 +2167,7 @@ choosing::clauses_on-tests-smaller t c =
     let fine_out = end_fine fs w s1 s2 0 p c.tests.run c.eval_on.new.run ended.Is (ended_as ended.Is out) one tt in
     let ready = end_ready fs w s1 s2 0 p c.tests.run c.eval_on.new.run ended.Is (ended_as ended.Is out) one tt inv.0.ready kept in
     let fine_v = fine_stays w s1.cells s2.cells kept.grows v inv.3 in
-    let placed = (place_fine fs w s1.cells s2.cells kept.grows at inv.2.0, inv.2.1) in
+    let placed : IsStmtAt fs w s2.cells id at = (place_fine fs w s1.cells s2.cells kept.grows at inv.2.0, inv.2.1) in
     let same : c.is_chosen.result ≡ operators.is_same (seen w s2.cells v) (seen w s2.cells out) = c.is_chosen.ensures.same w s2.cells fine_v fine_out in
     let after_test : (s : State) → clause_tested (seen w s2.cells v) all (drop next.at all) (place_of w s2.cells at) (meaning.Is (seen w s2.cells out)) s
     ≡ (if c.is_chosen.result then statements (bodies (drop next.at all)) (place_of w s2.cells at) s else choose_case (seen w s2.cells v) all (drop (next.at + 1) all) (place_of w s2.cells at) s) =
@@ -3231,7 +3231,7 @@ names::names_on-leave_job-requires t c =
     let q : State → Plan = taken fs w s1.cells (frame.Statement (statement.ForInNext l at)) meaning.Normal in
     let inv = c.passes.invariant in
     let fine = subst (λ (u : ForInNames). IsFine w s1.cells u.object) (sym c.deref.ensures) inv.2.0 in
-    inv.0.ready.2
+    record { waits = inv.0.ready.2 }
 
 pub names::names_on-returns-then-run-eq0-clause-comes : goal.names::names_on-returns-then-run-eq0-clause-comes
 names::names_on-returns-then-run-eq0-clause-comes t c =

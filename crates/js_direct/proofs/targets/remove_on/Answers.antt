@@ -55,7 +55,7 @@ throw-requires c =
     let fs = trees_of c.args.site.now.codes.now.items in
     let w = c.args.site.now.widget in
     let old = c.args.store.now in
-    (c.requires.ready.0, (c.remove.ensures.kept fs).confined c.requires.ready.1, c.requires.ready.2)
+    record { ready = (c.requires.ready.0, (c.remove.ensures.kept fs).confined c.requires.ready.1, c.requires.ready.2) }
 
 pub returns-in-Throw-clause-comes : goal.returns-in-Throw-clause-comes
 returns-in-Throw-clause-comes c =
