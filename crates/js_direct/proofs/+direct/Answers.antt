@@ -1885,8 +1885,8 @@ choosing::valued_on-returns-in-Left-clause-comes t c =
 pub choosing::valued_on-switch_end-requires : goal.choosing::valued_on-switch_end-requires
 choosing::valued_on-switch_end-requires t c = is_end c.in_ok-how.how c.in_default.not-Left
 
-pub choosing::valued_on-returns-in_default-clause-comes : goal.choosing::valued_on-returns-in_default-clause-comes
-choosing::valued_on-returns-in_default-clause-comes t c =
+pub choosing::valued_on-returns : goal.choosing::valued_on-returns
+choosing::valued_on-returns t c =
     let fs = trees_of c.args.here.now.site.now.codes.now.items in
     let w = c.args.here.now.site.now.widget in
     let at = c.args.here.now.at in
@@ -1905,8 +1905,11 @@ choosing::valued_on-returns-in_default-clause-comes t c =
     let kept = c.in_ok-how.ensures.kept in
     let plan : (s : State) → t s ≡ and_then (p s) (taken fs w old.cells f) = λ s. ap (λ v. and_then (choose_case (seen w old.cells v) all all (place_of w old.cells at) s) switch_end) (sym c.take_value-value.ensures.taken) in
     let end = is_end how c.in_default.not-Left in
-    part_gives fs w old mid 2 4 t p f had has has how c.switch_end.result (ended_as how out) (ended_as c.switch_end.result out) plan part end kept.grows tt c.switch_end.ensures.end refl
-    (λ r. sym (c.switch_end.ensures.plan w mid.cells out (image fs r w mid))) (c.switch_end.ensures.fine w mid.cells out (end_fine fs w old mid 2 p had has how (ended_as how out) part end)) (omega arith)
+    record {
+      comes = part_gives fs w old mid 2 4 t p f had has has how c.switch_end.result (ended_as how out) (ended_as c.switch_end.result out) plan part end kept.grows tt c.switch_end.ensures.end refl
+          (λ r. sym (c.switch_end.ensures.plan w mid.cells out (image fs r w mid))) (c.switch_end.ensures.fine w mid.cells out (end_fine fs w old mid 2 p had has how (ended_as how out) part end)) (omega arith);
+      kept = kept;
+    }
 
 pub choosing::clauses_on-returns-in_err-how-clause-kept : goal.choosing::clauses_on-returns-in_err-how-clause-kept
 choosing::clauses_on-returns-in_err-how-clause-kept t c =
