@@ -25,7 +25,7 @@ use crate::targets::{referred, take_reference, target_on};
 use crate::writing::{wait_written, write_value};
 use code_units::{Memory, Text};
 use js_flow::{Assigning, FormFrame, Frame, Job, Place, Reference};
-use js_image::assign;
+use js_image::{assign, variable_at};
 use js_tree::{AssignOp, BinOp, Expr, ExprId};
 use object_store::{Store, Value};
 
@@ -56,7 +56,189 @@ pub(crate) fn assign_on(
 {
     match op {
         AssignOp::Assign => assign_plain(here, run, store, parts, deep, out),
+        _ => assign_by(here, run, store, op, parts, deep, out),
+    }
+}
+
+// An assignment that computes.
+#[inline(always)]
+#[cycle(direct)]
+fn assign_by(
+    here: &Here,
+    run: &mut Run,
+    store: &mut Store,
+    op: AssignOp,
+    parts: (ExprId, ExprId),
+    deep: u32,
+    out: &mut Value,
+) -> Result<Ended, Memory>
+    requires ready { IsReady (trees_of here.now.site.now.codes.now.items) here.now.site.now.widget store.old run.old }
+    requires held { IsExprAt (trees_of here.now.site.now.codes.now.items) here.now.site.now.widget store.old.cells
+        parts.0 here.now.at
+        × IsExprAt (trees_of here.now.site.now.codes.now.items) here.now.site.now.widget store.old.cells parts.1
+        here.now.at }
+    requires tree { trees here.now.tree.now ≡ forest_at (trees_of here.now.site.now.codes.now.items) here.now.at.code }
+    ensures comes { let F = trees_of here.now.site.now.codes.now.items in let w = here.now.site.now.widget in
+        IfOk result (λ how. Comes F w store.old store.new 30
+        (λ s. Do (job_of F w store.old.cells (Job.Target parts.0 here.now.at)) s
+        (form_taken F w store.old.cells (FormFrame.AssignTarget op parts.1 here.now.at)))
+        run.old run.new how out.new) }
+    ensures kept { Kept (trees_of here.now.site.now.codes.now.items) here.now.site.now.widget store.old store.new }
+{
+    if run.units == 0 {
+        return assign_any(here, run, store, op, parts, deep, out);
+    }
+    match here.tree.expr(parts.0) {
+        Expr::Name(name) => {
+            run.units -= 1;
+            compute_name(here, run, store, name, (op, parts.1), deep, out)
+        }
         _ => assign_any(here, run, store, op, parts, deep, out),
+    }
+}
+
+// An assignment to a variable that computes; its target has its unit. What the variable has is read first.
+#[inline(always)]
+#[cycle(direct)]
+fn compute_name(
+    here: &Here,
+    run: &mut Run,
+    store: &mut Store,
+    name: &Text,
+    by: (AssignOp, ExprId),
+    deep: u32,
+    out: &mut Value,
+) -> Result<Ended, Memory>
+    requires ready { IsReady (trees_of here.now.site.now.codes.now.items) here.now.site.now.widget store.old run.old }
+    requires held { IsExprAt (trees_of here.now.site.now.codes.now.items) here.now.site.now.widget store.old.cells
+        by.1 here.now.at }
+    requires tree { trees here.now.tree.now ≡ forest_at (trees_of here.now.site.now.codes.now.items) here.now.at.code }
+    ensures comes { let F = trees_of here.now.site.now.codes.now.items in let w = here.now.site.now.widget in
+        IfOk result (λ how. Comes F w store.old store.new 12
+        (form_taken F w store.old.cells (FormFrame.AssignTarget by.0 by.1 here.now.at)
+        (meaning.Refers (reference_of w store.old.cells (Reference.Variable name.now))))
+        run.old run.new how out.new) }
+    ensures kept { Kept (trees_of here.now.site.now.codes.now.items) here.now.site.now.widget store.old store.new }
+{
+    let mut has = Value::Undefined;
+    share_to(variable_at(store, here.at.scope, name), &mut has)?;
+    compute_with(here, run, store, name, by, deep, &mut has, out)
+}
+
+// The right side, with what the variable has.
+#[inline(always)]
+#[cycle(direct)]
+fn compute_with(
+    here: &Here,
+    run: &mut Run,
+    store: &mut Store,
+    name: &Text,
+    by: (AssignOp, ExprId),
+    deep: u32,
+    has: &mut Value,
+    out: &mut Value,
+) -> Result<Ended, Memory>
+    requires ready { IsReady (trees_of here.now.site.now.codes.now.items) here.now.site.now.widget store.old run.old }
+    requires held { IsExprAt (trees_of here.now.site.now.codes.now.items) here.now.site.now.widget store.old.cells
+        by.1 here.now.at
+        × IsFine here.now.site.now.widget store.old.cells has.old }
+    requires tree { trees here.now.tree.now ≡ forest_at (trees_of here.now.site.now.codes.now.items) here.now.at.code }
+    ensures comes { let F = trees_of here.now.site.now.codes.now.items in let w = here.now.site.now.widget in
+        IfOk result (λ how. Comes F w store.old store.new 12
+        (λ s. Do (job_of F w store.old.cells (Job.Eval by.1 here.now.at)) s
+        (expressions.assign_with by.0 (reference_of w store.old.cells (Reference.Variable name.now))
+        (seen w store.old.cells has.old) (place_of w store.old.cells here.now.at)))
+        run.old run.new how out.new) }
+    ensures kept { Kept (trees_of here.now.site.now.codes.now.items) here.now.site.now.widget store.old store.new }
+{
+    match operand_on(here, run, store, by.1, deep, out)? {
+        Ended::Is => computed_name(here, run, store, by.0, name, has, out),
+        Ended::Left => {
+            let boxed = pending_name(here, by.0, name, has)?;
+            wait(run, Frame::Form(FormFrame::AssignWith(boxed)))
+        }
+        other => Ok(other),
+    }
+}
+
+// The assignment to a variable, as it waits for its right side.
+#[cold]
+#[inline(never)]
+fn pending_name(
+    here: &Here,
+    op: AssignOp,
+    name: &Text,
+    has: &mut Value,
+) -> Result<Box<Assigning>, Memory>
+    ensures { IfOk result (λ a. a.value
+        ≡ record { op = op; of = Reference.Variable name.now; has = has.old; place = here.now.at }) }
+{
+    let a = Assigning {
+        op,
+        of: Reference::Variable(name.share()?),
+        has: take_value(has),
+        place: here.at,
+    };
+    Ok(Box::new(here.site.alloc, a)?)
+}
+
+// What the assignment computes of what the variable had and the value at the place, and the write of it.
+#[inline(always)]
+fn computed_name(
+    here: &Here,
+    run: &mut Run,
+    store: &mut Store,
+    op: AssignOp,
+    name: &Text,
+    has: &Value,
+    out: &mut Value,
+) -> Result<Ended, Memory>
+    requires ready { IsReady (trees_of here.now.site.now.codes.now.items) here.now.site.now.widget store.old run.old }
+    requires place { IsPlace (trees_of here.now.site.now.codes.now.items) here.now.site.now.widget store.old.cells
+        here.now.at }
+    requires held { IsFine here.now.site.now.widget store.old.cells has.now
+        × IsFine here.now.site.now.widget store.old.cells out.old }
+    ensures comes { let F = trees_of here.now.site.now.codes.now.items in let w = here.now.site.now.widget in
+        IfOk result (λ how. Comes F w store.old store.new 12
+        (expressions.assign_with op (reference_of w store.old.cells (Reference.Variable name.now))
+        (seen w store.old.cells has.now) (place_of w store.old.cells here.now.at)
+        (meaning.Is (seen w store.old.cells out.old)))
+        run.old run.new how out.new) }
+    ensures kept { Kept (trees_of here.now.site.now.codes.now.items) here.now.site.now.widget store.old store.new }
+{
+    match operator(op) {
+        Some(by) => computed_by(here, run, store, by, name, has, out),
+        None => write_name(here, run, store, name, out),
+    }
+}
+
+// The same by its operator.
+#[inline(always)]
+fn computed_by(
+    here: &Here,
+    run: &mut Run,
+    store: &mut Store,
+    op: BinOp,
+    name: &Text,
+    has: &Value,
+    out: &mut Value,
+) -> Result<Ended, Memory>
+    requires ready { IsReady (trees_of here.now.site.now.codes.now.items) here.now.site.now.widget store.old run.old }
+    requires place { IsPlace (trees_of here.now.site.now.codes.now.items) here.now.site.now.widget store.old.cells
+        here.now.at }
+    requires held { IsFine here.now.site.now.widget store.old.cells has.now
+        × IsFine here.now.site.now.widget store.old.cells out.old }
+    ensures comes { let F = trees_of here.now.site.now.codes.now.items in let w = here.now.site.now.widget in
+        IfOk result (λ how. Comes F w store.old store.new 12
+        (λ s. and_then (expressions.operate op (seen w store.old.cells has.now) (seen w store.old.cells out.old)
+        here.now.at.depth s) (form_taken F w store.old.cells
+        (FormFrame.Write (Reference.Variable name.now) here.now.at)))
+        run.old run.new how out.new) }
+    ensures kept { Kept (trees_of here.now.site.now.codes.now.items) here.now.site.now.widget store.old store.new }
+{
+    match operate_on(here.site, run, store, op, has, here.at.depth, out)? {
+        Ended::Is => write_name(here, run, store, name, out),
+        other => hand_write(run, other, name, &here.at),
     }
 }
 
@@ -428,6 +610,7 @@ fn compute_on(
 }
 
 // The operator of an assignment that computes.
+#[inline(always)]
 fn operator(op: AssignOp) -> Option<BinOp>
     ensures { (v w : meaning.Value) (d : ℕ) (s : State) → expressions.compound op v w d s
         ≡ option_map_or (λ b. expressions.operate b v w d s) result (costs.give w s) }

@@ -59,7 +59,7 @@ pub(crate) fn eval_on(
     form_on(here, run, store, id, deep - 1, out)
 }
 
-/// The same, where most are names: these are read in place.
+/// The same, where most are names and numbers: these are read in place.
 #[inline(always)]
 #[cycle(direct)]
 pub(crate) fn operand_on(
@@ -87,6 +87,10 @@ pub(crate) fn operand_on(
         Expr::Name(name) => {
             run.units -= 1;
             name_on(here, store, name, out)
+        }
+        Expr::Num(text) => {
+            run.units -= 1;
+            number_on(here, store, text, out)
         }
         _ => eval_on(here, run, store, id, deep, out),
     }

@@ -1,5 +1,5 @@
 //! Names and literals.
-ghost use Rattle.std.specs.Prelude.{◌≡◌, ℕ, List, [], IfOk};
+ghost use Rattle.std.specs.Prelude.{◌≡◌, ℕ, List, [], IfOk, IfSome};
 ghost use Rattle.code_units.specs.Whole.{number_in};
 ghost use Rattle.js_tree.specs.Plain as node;
 ghost use Rattle.store_cells.specs.Cells.{PlainCell};
@@ -12,7 +12,7 @@ ghost use Rattle.js_flow.specs.Views.{place_of};
 ghost use Rattle.js_direct.specs.Comes.{Comes};
 ghost use Rattle.js_direct.specs.declared.run.Run.{Run};
 
-use crate::run::{Ended, Here, share_to};
+use crate::run::{Ended, Here, set_value, share_to};
 use code_units::{Memory, Text, WholeRead, read_whole};
 use js_image::variable_at;
 use js_tree::Word;
@@ -37,7 +37,8 @@ pub(crate) fn name_on(
     Ok(Ended::Is)
 }
 
-/// The value of a number.
+/// The value of a number; the place owns nothing.
+#[inline(always)]
 pub(crate) fn number_on(
     here: &Here,
     store: &Store,
@@ -48,7 +49,7 @@ pub(crate) fn number_on(
         IfOk result (λ how. (run : Run) → run.waits.items ≡ [] → Comes F w store.now store.now 30
         (expressions.expression (node.Num text.now) (place_of w store.now.cells here.now.at)) run run how out.new) }
 {
-    *out = number(text);
+    set_value(out, number(text));
     Ok(Ended::Is)
 }
 
@@ -82,8 +83,41 @@ pub(crate) fn word_on(
     Ok(Ended::Is)
 }
 
-// The value of a number literal.
+// The value of a number literal; most are one digit.
+#[inline(always)]
 fn number(text: &Text) -> Value
+    ensures value { (w : ℕ) (cells : List PlainCell) → seen w cells result ≡ expressions.literal (number_in text.now) }
+    ensures fine { (w : ℕ) (cells : List PlainCell) → IsFine w cells result }
+{
+    match digit(text.units()) {
+        Some(z) => Value::Num(Number::Whole(z)),
+        None => number_any(text),
+    }
+}
+
+// The number that a single digit is.
+#[inline(always)]
+fn digit(units: &[u16]) -> Option<i64>
+    ensures { IfSome result (λ z. number_in units.now ≡ WholeRead.Whole z) }
+{
+    match units {
+        [48] => Some(0),
+        [49] => Some(1),
+        [50] => Some(2),
+        [51] => Some(3),
+        [52] => Some(4),
+        [53] => Some(5),
+        [54] => Some(6),
+        [55] => Some(7),
+        [56] => Some(8),
+        [57] => Some(9),
+        _ => None,
+    }
+}
+
+// The same of any.
+#[inline(never)]
+fn number_any(text: &Text) -> Value
     ensures value { (w : ℕ) (cells : List PlainCell) → seen w cells result ≡ expressions.literal (number_in text.now) }
     ensures fine { (w : ℕ) (cells : List PlainCell) → IsFine w cells result }
 {

@@ -20,8 +20,8 @@ ghost use Rattle.js_direct.specs.Comes.{Comes, IsReady};
 ghost use Rattle.js_direct.specs.Prefixes.{is_plain_prefix};
 
 use crate::forms::{eval_on, operand_on};
-use crate::run::{Ended, Here, Run, Site, clear, handed, stop, take_value, wait};
-use crate::wholes::of_wholes;
+use crate::run::{Ended, Here, Run, Site, clear, handed, set_value, stop, take_value, wait};
+use crate::wholes::{of_whole, of_wholes};
 use code_units::Memory;
 use js_expressions::take_form;
 use js_flow::{Completion, Flow, FormFrame, Frame, Job, Place};
@@ -602,7 +602,7 @@ pub(crate) fn unary_on(
         run.old run.new how out.new) }
     ensures kept { Kept (trees_of here.now.site.now.codes.now.items) here.now.site.now.widget store.old store.new }
 {
-    match eval_on(here, run, store, e, deep, out)? {
+    match operand_on(here, run, store, e, deep, out)? {
         Ended::Is => prefix_on(here, run, store, op, out),
         how => hand_prefix(run, how, op, &here.at),
     }
@@ -622,6 +622,33 @@ fn hand_prefix(run: &mut Run, how: Ended, op: UnOp, place: &Place) -> Result<End
 
 // A prefix operator on the value at the place.
 fn prefix_on(
+    here: &Here,
+    run: &mut Run,
+    store: &mut Store,
+    op: UnOp,
+    out: &mut Value,
+) -> Result<Ended, Memory>
+    requires ready { IsReady (trees_of here.now.site.now.codes.now.items) here.now.site.now.widget store.old run.old }
+    requires held { IsPlace (trees_of here.now.site.now.codes.now.items) here.now.site.now.widget store.old.cells
+        here.now.at
+        × IsFine here.now.site.now.widget store.old.cells out.old }
+    ensures comes { let F = trees_of here.now.site.now.codes.now.items in let w = here.now.site.now.widget in
+        IfOk result (λ how. Comes F w store.old store.new 4
+        (taken F w store.old.cells (Frame.Form (FormFrame.Prefix op here.now.at))
+        (meaning.Is (seen w store.old.cells out.old)))
+        run.old run.new how out.new) }
+    ensures kept { Kept (trees_of here.now.site.now.codes.now.items) here.now.site.now.widget store.old store.new }
+{
+    if let Some(value) = of_whole(op, out) {
+        set_value(out, value);
+        return Ok(Ended::Is);
+    }
+    prefix_any(here, run, store, op, out)
+}
+
+// The same of any value.
+#[inline(never)]
+fn prefix_any(
     here: &Here,
     run: &mut Run,
     store: &mut Store,

@@ -5,12 +5,14 @@ ghost use Rattle.store_cells.specs.Cells.{PlainCell};
 ghost use Rattle.widget_meaning.specs.OwnState.{State};
 ghost use Rattle.widget_meaning.specs.Operators as operators;
 ghost use Rattle.widget_meaning.specs.Expressions as expressions;
+ghost use Rattle.js_tree.specs.declared.nodes.UnOp.TheVariants as un;
+ghost use Rattle.widget_meaning.specs.Plan as plan;
 ghost use Rattle.widget_meaning.specs.Plan.{Ret};
 ghost use Rattle.widget_meaning.specs.Values as meaning;
 ghost use Rattle.js_image.specs.Image.{seen};
 ghost use Rattle.js_image.specs.Held.{IsFine};
 
-use js_tree::BinOp;
+use js_tree::{BinOp, UnOp};
 use object_store::{Number, Value};
 
 // Past the largest number of the language.
@@ -28,6 +30,46 @@ pub(crate) fn of_wholes(op: BinOp, left: &Value, right: &Value) -> Option<Value>
     let x = whole_in(left)?;
     let y = whole_in(right)?;
     on_wholes(op, x, y)
+}
+
+/// What `+` gives on a whole number, and `!` on a truth value; none where it is looked for otherwise.
+#[inline(always)]
+pub(crate) fn of_whole(op: UnOp, value: &Value) -> Option<Value>
+    ensures gives { IfSome result (λ v. (w : ℕ) (cells : List PlainCell) (p : plan.Place) (s : State)
+        → expressions.unary_on op (seen w cells value.now) p s ≡ Ret (meaning.Is (seen w cells v)) s) }
+    ensures fine { IfSome result (λ v. (w : ℕ) (cells : List PlainCell) → IsFine w cells v) }
+{
+    match op {
+        UnOp::Plus => same_number(value),
+        UnOp::Not => other_truth(value),
+        _ => None,
+    }
+}
+
+// `+` of a whole number.
+#[inline(always)]
+fn same_number(value: &Value) -> Option<Value>
+    ensures gives { IfSome result (λ v. (w : ℕ) (cells : List PlainCell) (p : plan.Place) (s : State)
+        → expressions.unary_on un.Plus (seen w cells value.now) p s ≡ Ret (meaning.Is (seen w cells v)) s) }
+    ensures fine { IfSome result (λ v. (w : ℕ) (cells : List PlainCell) → IsFine w cells v) }
+{
+    match value {
+        Value::Num(Number::Whole(z)) => Some(Value::Num(Number::Whole(*z))),
+        _ => None,
+    }
+}
+
+// `!` of a truth value.
+#[inline(always)]
+fn other_truth(value: &Value) -> Option<Value>
+    ensures gives { IfSome result (λ v. (w : ℕ) (cells : List PlainCell) (p : plan.Place) (s : State)
+        → expressions.unary_on un.Not (seen w cells value.now) p s ≡ Ret (meaning.Is (seen w cells v)) s) }
+    ensures fine { IfSome result (λ v. (w : ℕ) (cells : List PlainCell) → IsFine w cells v) }
+{
+    match value {
+        Value::Bool(b) => Some(Value::Bool(!*b)),
+        _ => None,
+    }
 }
 
 // The whole number that a value is.

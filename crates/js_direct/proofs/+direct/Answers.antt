@@ -1,64 +1,3 @@
-use Rattle.std.proofs.Common.{rules, List, None, [], ap, arith, drop, length, refl, subst, suc, sym, ℕ, ◌++◌, ◌+◌, ◌-◌, ◌∙◌, ◌∷◌, ◌≡◌, Bool, if◌then◌else◌, true, ◌<◌}
-use Rattle.std.proofs.lemmas.Result.{IfOk-weaker}
-use Rattle.js_tree.specs.Forest.{Forest, IsStmt, expr_at, plain_form, stmt_at}
-use Rattle.widget_meaning.specs.Costs.{make, pay, scope_cost, throw}
-use Rattle.widget_meaning.specs.Expressions.{arguments_then, array_parts, assign_with, base_of, callee, expression, object_parts, refer, target}
-use Rattle.widget_meaning.specs.OwnState.{Function, State, new_array, new_object, plain_object, Scope, with_new_scope}
-use Rattle.widget_meaning.specs.Plan.{Do, Eval, Halt, Plan, Ret, after, and_then, charge, ForInLoop, Pass}
-use Rattle.widget_meaning.specs.Values.{Value, E1}
-use Rattle.js_image.specs.Image.{all_seen, function_in, image, seen, Rest, no_rest}
-use Rattle.js_image.specs.Plans.{made_plan, meant_cause, IsScopeMade, scope_of, scope_plan}
-use Rattle.js_image.proofs.Units.{kept_then}
-use Rattle.js_names.specs.Code.{trees_of}
-use Rattle.js_flow.specs.Parts.{HasStmt, IsBlock, arguments_of, block_list, decls_of, elements_of, else_of, forest_at, loop_of, properties_of, then_of, catch_of, catch_body, finally_body, finally_of, clauses_of, loop_body, variable_of}
-use Rattle.js_flow.specs.Views.{completion_of, job_of, place_of, reference_of, for_in_loop, name_at}
-use Rattle.js_flow.proofs.Stays.{place_fine, place_same, reference_fine, reference_same, completion_fine, completion_same}
-use Rattle.js_direct.proofs.Lists.{before_then, goes_both, goes_then, left_no_value, part_goes}
-use Rattle.js_direct.proofs.Parts.{before_it, gives, more, part_passes, part_then, part_waits, unit_first}
-use Rattle.js_image.proofs.Grown.{fine_stays, held_stays, kept_same, seen_stays}
-use Rattle.js_image.specs.Held.{AreFine, IsFine, IsHeld, ArePairs}
-use Rattle.js_flow.specs.Fine.{FineAssigning, FineFrame, IsExprAt, FineCompletion, FineNames, IsStmtAt}
-use Rattle.js_flow.specs.Frames.{taken}
-use Rattle.js_direct.specs.declared.run.Ended.{Ended}
-use Rattle.js_direct.specs.Comes.{Comes, ended_as, target_as, ComesTo, IsReady}
-use Rattle.js_direct.proofs.FormFrames.{after_store, both_ok, ends_target, expr_stays, frame_waits, gives_at, instead, not_value, other_end, reaches_at, target_ends, target_fine, target_then, value_fine, value_passes, value_ready, value_then}
-use Rattle.js_tree.specs.declared.nodes.AssignOp.{AssignOp}
-use Rattle.js_flow.specs.Forms.{form_taken, property_done}
-use Rattle.js_tree.specs.Trees.{trees}
-use Rattle.js_tree.specs.declared.nodes.Expr.{Expr}
-use Rattle.js_direct.proofs.Reaching.{at_eval, at_target, found_form, goes_on, goes_past, less_one, no_value, parts_at}
-use Rattle.js_direct.proofs.Handing.{hand_form, hand_ok, hand_target, hands, passes_normal, passes_value, placed_ok}
-use Rattle.store_cells.specs.Cells.{PlainCell}
-use Rattle.js_flow.specs.declared.frame.Assigning.{Assigning}
-use Rattle.js_flow.specs.Statements.{block_at, declared, loop_again, loop_next, clause_tested}
-use Rattle.widget_meaning.specs.Calls.{call_end, enter, invoke, statements}
-use Rattle.js_direct.proofs.Sequels.{as_is, end_fine, end_ready, is_end, loop_passes, other_normal, other_value, part_done, part_gives, part_next, passes_paid, passes_then, planned, round, stays, tested, towards_each, towards_paid, towards_then, unit_paid, waits_ok, waits_then, weigh, normal_passes}
-use Rattle.js_flow.proofs.Listing.{listed}
-use Rattle.std.specs.Prelude.{IfOk, Option, Some, map}
-use Rattle.js_tree.specs.declared.nodes.StmtId.{StmtId}
-use Rattle.js_direct.proofs.Arguing.{all_there, argued_hands, argued_then, argued_waits_none, callee_hands, callee_there, counted, fewer, more_at, none_there, one_there, other_there, part_ends, refused}
-use Rattle.std.specs.Option.{option_map}
-use Rattle.store_cells.specs.declared.value.Value.{Value as Value2}
-use Rattle.object_store.specs.Owned.{scope_number}
-use Rattle.js_calls.proofs.Invoked.{fine_within, function_called, native_called, nothing_called}
-use Rattle.js_calls.specs.Called.{FineEntry, entry_plan}
-use Rattle.widget_meaning.specs.Meaning.{body}
-use Rattle.widget_meaning.proofs.Runs.{and_then_ret}
-use Rattle.js_direct.specs.Towards.{Passes, Towards, frame_after, frame_in, part_of}
-use Rattle.js_direct.specs.declared.run.Run.{Run}
-use Rattle.js_direct.proofs.Loops.{after_fine, after_free, after_taken, again_normal, loop_broken, loop_other, part_fine, part_free, part_taken, pass_is}
-use Rattle.js_image.proofs.Hosts.{entry_link}
-use Rattle.widget_meaning.specs.Statements.{branch, caught, in_catch, finally, last_end, choose_case, switch_end, bodies, from_default, for_in, for_in_over, for_in_next}
-use Rattle.js_direct.proofs.Rarer.{caught_passes, one_name, end_waits, then_gives, clause_passes, charge_paid, charge_waits, names_next}
-use Rattle.js_tree.specs.Plain.{CatchAs, NoCatch, NoBlock, SomeBlock}
-use Rattle.js_image.specs.declared.outcome.Made.{Made}
-use Rattle.std.specs.List.{IsDistinct}
-use Rattle.std.specs.Str.{bytes_eq}
-use Rattle.js_direct.specs.Hands.{WaitsToEnd}
-use Rattle.js_flow.specs.declared.job.Completion.{Completion}
-use Rattle.js_tree.specs.Lists.{stmt_list}
-use Rattle.widget_meaning.specs.Properties.{names_of}
-use Rattle.js_flow.specs.declared.frame.ForInNames.{ForInNames}
 use Rattle.store_cells.specs.declared.value.Value.TheVariants as value
 use Rattle.js_flow.specs.declared.job.Job.TheVariants as job
 use Rattle.js_flow.specs.declared.frame.Frame.TheVariants as frame
@@ -79,6 +18,67 @@ use Rattle.js_tree.specs.declared.nodes.Expr.TheVariants as expr
 use Rattle.widget_meaning.specs.Operators as operators
 use Rattle.widget_meaning.specs.Scopes as scopes
 use Rattle.js_direct.proofs.+direct.Goals as goal
+use Rattle.std.proofs.Common.{Bool, List, None, [], ap, arith, drop, if◌then◌else◌, length, refl, rules, subst, suc, sym, true, ℕ, ◌++◌, ◌+◌, ◌-◌, ◌<◌, ◌∙◌, ◌∷◌, ◌≡◌}
+use Rattle.std.proofs.lemmas.Result.{IfOk-weaker}
+use Rattle.js_tree.specs.Forest.{Forest, IsStmt, expr_at, plain_form, stmt_at}
+use Rattle.widget_meaning.specs.Costs.{make, pay, scope_cost, throw}
+use Rattle.widget_meaning.specs.Expressions.{arguments_then, array_parts, assign_with, base_of, callee, expression, object_parts, refer, target}
+use Rattle.widget_meaning.specs.OwnState.{Function, Scope, State, new_array, new_object, plain_object, with_new_scope}
+use Rattle.widget_meaning.specs.Plan.{Do, Eval, ForInLoop, Halt, Pass, Plan, Ret, after, and_then, charge}
+use Rattle.widget_meaning.specs.Values.{E1, Value}
+use Rattle.js_image.specs.Image.{Rest, all_seen, function_in, image, no_rest, seen}
+use Rattle.js_image.specs.Plans.{IsScopeMade, made_plan, meant_cause, scope_of, scope_plan}
+use Rattle.js_image.proofs.Units.{kept_then}
+use Rattle.js_names.specs.Code.{trees_of}
+use Rattle.js_flow.specs.Parts.{HasStmt, IsBlock, arguments_of, block_list, catch_body, catch_of, clauses_of, decls_of, elements_of, else_of, finally_body, finally_of, forest_at, loop_body, loop_of, properties_of, then_of, variable_of}
+use Rattle.js_flow.specs.Views.{completion_of, for_in_loop, job_of, name_at, place_of, reference_of}
+use Rattle.js_flow.proofs.Stays.{completion_fine, completion_same, place_fine, place_same, reference_fine, reference_same}
+use Rattle.js_direct.proofs.Lists.{before_then, goes_both, goes_then, left_no_value, part_goes}
+use Rattle.js_direct.proofs.Parts.{before_it, gives, more, part_passes, part_then, part_waits, unit_first}
+use Rattle.js_image.proofs.Grown.{fine_stays, held_stays, kept_same, seen_stays}
+use Rattle.js_image.specs.Held.{AreFine, ArePairs, IsFine, IsHeld}
+use Rattle.js_flow.specs.Fine.{FineAssigning, FineCompletion, FineFrame, FineNames, IsExprAt, IsStmtAt}
+use Rattle.js_flow.specs.Frames.{taken}
+use Rattle.js_direct.specs.declared.run.Ended.{Ended}
+use Rattle.js_direct.specs.Comes.{Comes, ComesTo, IsReady, ended_as, target_as}
+use Rattle.js_direct.proofs.FormFrames.{after_store, both_ok, ends_target, expr_stays, frame_waits, gives_at, instead, not_value, other_end, reaches_at, target_ends, target_fine, target_then, value_fine, value_passes, value_ready, value_then}
+use Rattle.js_tree.specs.declared.nodes.AssignOp.{AssignOp}
+use Rattle.js_flow.specs.Forms.{form_taken, property_done}
+use Rattle.js_tree.specs.Trees.{trees}
+use Rattle.js_tree.specs.declared.nodes.Expr.{Expr}
+use Rattle.js_direct.proofs.Reaching.{at_eval, at_target, found_form, goes_on, goes_past, less_one, no_value, parts_at}
+use Rattle.js_direct.proofs.Handing.{hand_form, hand_ok, hand_target, hands, passes_normal, passes_value, placed_ok}
+use Rattle.store_cells.specs.Cells.{PlainCell}
+use Rattle.js_flow.specs.declared.frame.Assigning.{Assigning}
+use Rattle.js_flow.specs.Statements.{block_at, clause_tested, declared, loop_again, loop_next}
+use Rattle.widget_meaning.specs.Calls.{call_end, enter, invoke, statements}
+use Rattle.js_direct.proofs.Sequels.{as_is, end_fine, end_ready, is_end, loop_passes, normal_passes, other_normal, other_value, part_done, part_gives, part_next, passes_paid, passes_then, planned, round, stays, tested, towards_each, towards_paid, towards_then, unit_paid, waits_ok, waits_then, weigh}
+use Rattle.js_flow.proofs.Listing.{listed}
+use Rattle.std.specs.Prelude.{IfOk, Option, Some, map}
+use Rattle.js_tree.specs.declared.nodes.StmtId.{StmtId}
+use Rattle.js_direct.proofs.Arguing.{all_there, argued_hands, argued_then, argued_waits_none, callee_hands, callee_there, counted, fewer, more_at, none_there, one_there, other_there, part_ends, refused}
+use Rattle.std.specs.Option.{option_map}
+use Rattle.store_cells.specs.declared.value.Value.{Value as Value2}
+use Rattle.object_store.specs.Owned.{scope_number}
+use Rattle.js_calls.proofs.Invoked.{fine_within, function_called, native_called, nothing_called}
+use Rattle.js_calls.specs.Called.{FineEntry, entry_plan}
+use Rattle.widget_meaning.specs.Meaning.{body}
+use Rattle.widget_meaning.proofs.Runs.{and_then_ret}
+use Rattle.js_direct.specs.Towards.{Passes, Towards, frame_after, frame_in, part_of}
+use Rattle.js_direct.specs.declared.run.Run.{Run}
+use Rattle.js_direct.proofs.Loops.{after_fine, after_free, after_taken, again_normal, loop_broken, loop_other, part_fine, part_free, part_taken, pass_is}
+use Rattle.js_image.proofs.Hosts.{entry_link}
+use Rattle.widget_meaning.specs.Statements.{bodies, branch, caught, choose_case, finally, for_in, for_in_next, for_in_over, from_default, in_catch, last_end, switch_end}
+use Rattle.js_direct.proofs.Rarer.{caught_passes, charge_paid, charge_waits, clause_passes, end_waits, names_next, one_name, then_gives}
+use Rattle.js_tree.specs.Plain.{CatchAs, NoBlock, NoCatch, SomeBlock}
+use Rattle.js_image.specs.declared.outcome.Made.{Made}
+use Rattle.std.specs.List.{IsDistinct}
+use Rattle.std.specs.Str.{bytes_eq}
+use Rattle.js_direct.specs.Hands.{WaitsToEnd}
+use Rattle.js_flow.specs.declared.job.Completion.{Completion}
+use Rattle.js_tree.specs.Lists.{stmt_list}
+use Rattle.widget_meaning.specs.Properties.{names_of}
+use Rattle.js_flow.specs.declared.frame.ForInNames.{ForInNames}
 
 pub arrays::array_on-returns-in-Cell-clause-comes : goal.arrays::array_on-returns-in-Cell-clause-comes
 arrays::array_on-returns-in-Cell-clause-comes t c =
@@ -341,6 +341,24 @@ assigning::assign_plain-returns-in-Name-clause-comes t c =
     (λ how h. unit_first fs w s c.assign_name.new.store 1 30 j p k c.args.run.now (record c.args.run.now { units = c.args.run.now.units - 1 }) c.assign_name.new.run how (ended_as how c.assign_name.new.out) (less_one c.args.run.now.units c.if-run-eq0.false)
     (λ x. ap (λ q. and_then q k) (at_target fs code f c.args.parts.0 node here c.expr.ensures.same pl x ∙ ap (λ (e : Expr). target (plain_form (forest_at fs code) e) pl x) c.in-Name.is)) h (omega arith))
     c.assign_name.ensures.comes
+
+pub assigning::assign_by-returns-in-Name-clause-comes : goal.assigning::assign_by-returns-in-Name-clause-comes
+assigning::assign_by-returns-in-Name-clause-comes t c =
+    let fs = trees_of c.args.here.now.site.now.codes.now.items in
+    let w = c.args.here.now.site.now.widget in
+    let s = c.args.store.now in
+    let code = c.args.here.now.at.code in
+    let f = trees c.args.here.now.tree.now in
+    let node = c.expr.result.now in
+    let here = c.requires.tree in
+    let pl = place_of w s.cells c.args.here.now.at in
+    let j = job_of fs w s.cells (job.Target c.args.parts.0 c.args.here.now.at) in
+    let k = form_taken fs w s.cells (form.AssignTarget c.args.op c.args.parts.1 c.args.here.now.at) in
+    let p = k (meaning.Refers (reference_of w s.cells (reference.Variable c.in-Name.name))) in
+    IfOk-weaker c.compute_name.result _ _
+    (λ how h. unit_first fs w s c.compute_name.new.store 12 30 j p k c.args.run.now (record c.args.run.now { units = c.args.run.now.units - 1 }) c.compute_name.new.run how (ended_as how c.compute_name.new.out) (less_one c.args.run.now.units c.if-run-eq0.false)
+    (λ x. ap (λ q. and_then q k) (at_target fs code f c.args.parts.0 node here c.expr.ensures.same pl x ∙ ap (λ (e : Expr). target (plain_form (forest_at fs code) e) pl x) c.in-Name.is)) h (omega arith))
+    c.compute_name.ensures.comes
 
 pub assigning::assign_name-write_name-requires-clause-ready : goal.assigning::assign_name-write_name-requires-clause-ready
 assigning::assign_name-write_name-requires-clause-ready t c =
@@ -623,6 +641,117 @@ assigning::assign_with-returns-in_default t c =
       comes = goes_past fs w s t 0 12 (λ t. Do (job_of fs w s.cells (job.Eval c.args.by.1 c.args.here.now.at)) t Ret) (k s.cells) c.args.run.now c.eval_on.new.run c.in_ok-other.other c.eval_on.new.out c.in_ok-other.ensures.comes c.in_default.not-Is c.in_default.not-Left (λ o x h. no_value o x _ h) (omega arith);
       kept = c.eval_on.ensures.kept;
     }
+
+pub assigning::compute_with-computed_name-requires-clause-ready : goal.assigning::compute_with-computed_name-requires-clause-ready
+assigning::compute_with-computed_name-requires-clause-ready t c =
+    let fs = trees_of c.args.here.now.site.now.codes.now.items in
+    let w = c.args.here.now.site.now.widget in
+    let s = c.args.store.now in
+    value_ready fs w s c.operand_on.new.store 0 (λ t. Do (job_of fs w s.cells (job.Eval c.args.by.1 c.args.here.now.at)) t Ret) c.args.run.now c.operand_on.new.run c.in_ok-other.other _ c.in_ok-other.ensures.comes c.in-Is.is c.operand_on.ensures.kept c.requires.ready
+
+pub assigning::compute_with-computed_name-requires-clause-held : goal.assigning::compute_with-computed_name-requires-clause-held
+assigning::compute_with-computed_name-requires-clause-held t c =
+    let fs = trees_of c.args.here.now.site.now.codes.now.items in
+    let w = c.args.here.now.site.now.widget in
+    let s = c.args.store.now in
+    let to : Assigning = record { op = c.args.by.0; of = reference.Variable c.args.name.now; has = c.args.has.now; place = c.args.here.now.at } in
+    let t = c.operand_on.new.store in
+    let g = c.operand_on.ensures.kept.grows in
+    let held : FineAssigning fs w s.cells to = (tt, c.requires.held.1, c.requires.held.0.0) in (
+      fine_stays w s.cells t.cells g to.has held.1,
+      value_fine fs w s t 0 (λ t. Do (job_of fs w s.cells (job.Eval c.args.by.1 c.args.here.now.at)) t Ret) c.args.run.now c.operand_on.new.run c.in_ok-other.other c.operand_on.new.out c.in_ok-other.ensures.comes c.in-Is.is,
+    )
+
+pub assigning::compute_with-computed_name-requires-clause-place : goal.assigning::compute_with-computed_name-requires-clause-place
+assigning::compute_with-computed_name-requires-clause-place t c =
+    place_fine (trees_of c.args.here.now.site.now.codes.now.items) c.args.here.now.site.now.widget c.args.store.now.cells c.operand_on.new.store.cells c.operand_on.ensures.kept.grows c.args.here.now.at c.requires.held.0.0
+
+pub assigning::compute_with-returns-in-Is-clause-comes : goal.assigning::compute_with-returns-in-Is-clause-comes
+assigning::compute_with-returns-in-Is-clause-comes t c =
+    let fs = trees_of c.args.here.now.site.now.codes.now.items in
+    let w = c.args.here.now.site.now.widget in
+    let s = c.args.store.now in
+    let to : Assigning = record { op = c.args.by.0; of = reference.Variable c.args.name.now; has = c.args.has.now; place = c.args.here.now.at } in
+    let t = c.operand_on.new.store in
+    let g = c.operand_on.ensures.kept.grows in
+    let held : FineAssigning fs w s.cells to = (tt, c.requires.held.1, c.requires.held.0.0) in
+    let k = λ (x : List PlainCell). assign_with to.op (reference_of w x to.of) (seen w x to.has) (place_of w x to.place) in
+    IfOk-weaker c.computed_name.result _ _
+    (λ how h. goes_on fs w s t c.computed_name.new.store 0 12 12 (λ t. Do (job_of fs w s.cells (job.Eval c.args.by.1 c.args.here.now.at)) t Ret) (k s.cells) (k t.cells) c.args.run.now c.operand_on.new.run c.computed_name.new.run c.in_ok-other.other how c.operand_on.new.out (ended_as how c.computed_name.new.out)
+    c.in_ok-other.ensures.comes c.in-Is.is (λ i. assign_with to.op (sym (reference_same w s.cells t.cells g to.of held.0) i) (sym (seen_stays w s.cells t.cells g to.has held.1) i) (sym (place_same fs w s.cells t.cells g to.place held.2) i)) h (omega arith))
+    c.computed_name.ensures.comes
+
+pub assigning::compute_with-returns-in-Is-clause-kept : goal.assigning::compute_with-returns-in-Is-clause-kept
+assigning::compute_with-returns-in-Is-clause-kept t c =
+    let fs = trees_of c.args.here.now.site.now.codes.now.items in
+    let w = c.args.here.now.site.now.widget in
+    let s = c.args.store.now in
+    kept_then fs w s c.operand_on.new.store c.computed_name.new.store c.operand_on.ensures.kept c.computed_name.ensures.kept
+
+pub assigning::compute_with-returns-in_ok-boxed-in-Left-clause-comes : goal.assigning::compute_with-returns-in_ok-boxed-in-Left-clause-comes
+assigning::compute_with-returns-in_ok-boxed-in-Left-clause-comes t c =
+    let fs = trees_of c.args.here.now.site.now.codes.now.items in
+    let w = c.args.here.now.site.now.widget in
+    let s = c.args.store.now in
+    let to : Assigning = record { op = c.args.by.0; of = reference.Variable c.args.name.now; has = c.args.has.now; place = c.args.here.now.at } in
+    let t = c.operand_on.new.store in
+    let g = c.operand_on.ensures.kept.grows in
+    let held : FineAssigning fs w s.cells to = (tt, c.requires.held.1, c.requires.held.0.0) in
+    let b = c.in_ok-boxed-in-Left.boxed in
+    let same = c.in_ok-boxed-in-Left.ensures in
+    let j = job_of fs w s.cells (job.Eval c.args.by.1 c.args.here.now.at) in
+    let k = λ (a : Assigning). assign_with a.op (reference_of w s.cells a.of) (seen w s.cells a.has) (place_of w s.cells a.place) in
+    IfOk-weaker c.wait.result _ _
+    (λ how h. instead fs w s t 12 12 (λ x. Do j x (k b.value)) (λ x. Do j x (k to)) c.args.run.now c.wait.new.run how (ended_as how c.operand_on.new.out) h
+    (λ r. ap (λ (a : Assigning). Do j (image fs r w s) (k a)) (sym same)) (omega arith))
+    (frame_waits fs w c.wait.result s t 0 12 (λ t. Do (job_of fs w s.cells (job.Eval c.args.by.1 c.args.here.now.at)) t Ret) (frame.Form (form.AssignWith b)) c.args.run.now c.operand_on.new.run c.wait.new.run c.in_ok-other.other (ended_as c.in_ok-other.other c.operand_on.new.out) (λ h. ended_as h c.operand_on.new.out)
+    c.in_ok-other.ensures.comes c.in-Left.is c.operand_on.ensures.kept (subst (λ (a : Assigning). FineAssigning fs w s.cells a) (sym same) held) (omega arith) c.wait.ensures.left c.wait.ensures.waits c.wait.ensures.next c.wait.ensures.units)
+
+pub assigning::compute_with-returns-in_default : goal.assigning::compute_with-returns-in_default
+assigning::compute_with-returns-in_default t c =
+    let fs = trees_of c.args.here.now.site.now.codes.now.items in
+    let w = c.args.here.now.site.now.widget in
+    let s = c.args.store.now in
+    let to : Assigning = record { op = c.args.by.0; of = reference.Variable c.args.name.now; has = c.args.has.now; place = c.args.here.now.at } in
+    let t = c.operand_on.new.store in
+    let g = c.operand_on.ensures.kept.grows in
+    let held : FineAssigning fs w s.cells to = (tt, c.requires.held.1, c.requires.held.0.0) in
+    let k = λ (x : List PlainCell). assign_with to.op (reference_of w x to.of) (seen w x to.has) (place_of w x to.place) in
+    record {
+      comes = goes_past fs w s t 0 12 (λ t. Do (job_of fs w s.cells (job.Eval c.args.by.1 c.args.here.now.at)) t Ret) (k s.cells) c.args.run.now c.operand_on.new.run c.in_ok-other.other c.operand_on.new.out c.in_ok-other.ensures.comes c.in_default.not-Is c.in_default.not-Left (λ o x h. no_value o x _ h) (omega arith);
+      kept = c.operand_on.ensures.kept;
+    }
+
+pub assigning::compute_name-compute_with-requires : goal.assigning::compute_name-compute_with-requires
+assigning::compute_name-compute_with-requires t c =
+    let fs = trees_of c.args.here.now.site.now.codes.now.items in
+    let w = c.args.here.now.site.now.widget in
+    let s = c.args.store.now in (
+      search rules,
+      (
+        c.requires.ready,
+        (
+          (c.requires.held, subst (λ (v : Value2). IsFine w s.cells v) (sym c.in_ok-share_to.ensures) (c.variable_at.ensures.fine fs w c.requires.ready.1 c.requires.held.0.1)),
+          c.requires.tree,
+        ),
+      ),
+    )
+
+pub assigning::compute_name-returns-clause-comes : goal.assigning::compute_name-returns-clause-comes
+assigning::compute_name-returns-clause-comes t c =
+    let fs = trees_of c.args.here.now.site.now.codes.now.items in
+    let w = c.args.here.now.site.now.widget in
+    let s = c.args.store.now in
+    let j = job_of fs w s.cells (job.Eval c.args.by.1 c.args.here.now.at) in
+    let pl = place_of w s.cells c.args.here.now.at in
+    let of = reference_of w s.cells (reference.Variable c.args.name.now) in
+    let has = c.share_to.new.out in
+    let same = λ (r : Rest). ap (λ (v : Value2). seen w s.cells v) c.in_ok-share_to.ensures ∙ c.variable_at.ensures.found fs r w c.args.here.now.at.depth c.requires.ready.1 c.requires.held.0.1 in
+    IfOk-weaker c.compute_with.result _ _
+    (λ how h. instead fs w s c.compute_with.new.store 12 12 (λ t. Do j t (assign_with c.args.by.0 of (seen w s.cells has) pl))
+    (form_taken fs w s.cells (form.AssignTarget c.args.by.0 c.args.by.1 c.args.here.now.at) (meaning.Refers of)) c.args.run.now c.compute_with.new.run how (ended_as how c.compute_with.new.out) h
+    (λ r. (λ i. Do j (image fs r w s) (assign_with c.args.by.0 of (sym (same r) i) pl))) (omega arith))
+    c.compute_with.ensures.comes
 
 pub blocks::list_on-returns-in_err-how-clause-kept : goal.blocks::list_on-returns-in_err-how-clause-kept
 blocks::list_on-returns-in_err-how-clause-kept t c =
@@ -2473,6 +2602,21 @@ forms::operand_on-returns-in-Name-clause-comes t c =
     (λ how h. unit_first fs w s s 30 0 j (expression (node.Name c.in-Name.name) pl) Ret c.args.run.now has has how (ended_as how c.name_on.new.out) (less_one c.args.run.now.units c.if-run-eq0.false)
     (λ x. and_then_ret (body j x) ∙ at_eval fs code f c.args.id c.expr.result.now c.requires.tree c.expr.ensures.same pl x ∙ ap (λ (e : Expr). expression (plain_form (forest_at fs code) e) pl x) c.in-Name.is) (h has c.requires.ready.2) (omega arith))
     c.name_on.ensures.comes
+
+pub forms::operand_on-returns-in-Num-clause-comes : goal.forms::operand_on-returns-in-Num-clause-comes
+forms::operand_on-returns-in-Num-clause-comes t c =
+    let fs = trees_of c.args.here.now.site.now.codes.now.items in
+    let w = c.args.here.now.site.now.widget in
+    let s = c.args.store.now in
+    let code = c.args.here.now.at.code in
+    let f = trees c.args.here.now.tree.now in
+    let pl = place_of w s.cells c.args.here.now.at in
+    let j = job_of fs w s.cells (job.Eval c.args.id c.args.here.now.at) in
+    let has = record c.args.run.now { units = c.args.run.now.units - 1 } in
+    IfOk-weaker c.number_on.result _ _
+    (λ how h. unit_first fs w s s 30 0 j (expression (node.Num c.in-Num.text) pl) Ret c.args.run.now has has how (ended_as how c.number_on.new.out) (less_one c.args.run.now.units c.if-run-eq0.false)
+    (λ x. and_then_ret (body j x) ∙ at_eval fs code f c.args.id c.expr.result.now c.requires.tree c.expr.ensures.same pl x ∙ ap (λ (e : Expr). expression (plain_form (forest_at fs code) e) pl x) c.in-Num.is) (h has c.requires.ready.2) (omega arith))
+    c.number_on.ensures.comes
 
 pub forms::unary_form-returns-then-takes_target-clause-comes : goal.forms::unary_form-returns-then-takes_target-clause-comes
 forms::unary_form-returns-then-takes_target-clause-comes t c =
@@ -4340,12 +4484,12 @@ operators::unary_on-prefix_on-requires-clause-ready t c =
     let fs = trees_of c.args.here.now.site.now.codes.now.items in
     let w = c.args.here.now.site.now.widget in
     let old = c.args.store.now in
-    let mid = c.eval_on.new.store in
+    let mid = c.operand_on.new.store in
     let p : State → Plan = λ s. Do (job_of fs w old.cells (job.Eval c.args.e c.args.here.now.at)) s Ret in
     let had = c.args.run.now in
-    let has = c.eval_on.new.run in
+    let has = c.operand_on.new.run in
     let how = c.in_ok-how.how in
-    let out = c.eval_on.new.out in
+    let out = c.operand_on.new.out in
     let part = c.in_ok-how.ensures.comes in
     let kept = c.in_ok-how.ensures.kept in
     value_ready fs w old mid 0 p had has how (ended_as how out) part c.in-Is.is kept c.requires.ready
@@ -4355,12 +4499,12 @@ operators::unary_on-prefix_on-requires-clause-held t c =
     let fs = trees_of c.args.here.now.site.now.codes.now.items in
     let w = c.args.here.now.site.now.widget in
     let old = c.args.store.now in
-    let mid = c.eval_on.new.store in
+    let mid = c.operand_on.new.store in
     let p : State → Plan = λ s. Do (job_of fs w old.cells (job.Eval c.args.e c.args.here.now.at)) s Ret in
     let had = c.args.run.now in
-    let has = c.eval_on.new.run in
+    let has = c.operand_on.new.run in
     let how = c.in_ok-how.how in
-    let out = c.eval_on.new.out in
+    let out = c.operand_on.new.out in
     let part = c.in_ok-how.ensures.comes in
     let kept = c.in_ok-how.ensures.kept in
     (place_fine fs w old.cells mid.cells kept.grows c.args.here.now.at c.requires.held.0, value_fine fs w old mid 0 p had has how out part c.in-Is.is)
@@ -4370,12 +4514,12 @@ operators::unary_on-returns-in-Is-clause-comes t c =
     let fs = trees_of c.args.here.now.site.now.codes.now.items in
     let w = c.args.here.now.site.now.widget in
     let old = c.args.store.now in
-    let mid = c.eval_on.new.store in
+    let mid = c.operand_on.new.store in
     let p : State → Plan = λ s. Do (job_of fs w old.cells (job.Eval c.args.e c.args.here.now.at)) s Ret in
     let had = c.args.run.now in
-    let has = c.eval_on.new.run in
+    let has = c.operand_on.new.run in
     let how = c.in_ok-how.how in
-    let out = c.eval_on.new.out in
+    let out = c.operand_on.new.out in
     let part = c.in_ok-how.ensures.comes in
     let kept = c.in_ok-how.ensures.kept in
     (IfOk-weaker c.prefix_on.result _ _
@@ -4384,19 +4528,19 @@ operators::unary_on-returns-in-Is-clause-comes t c =
 
 pub operators::unary_on-returns-in-Is-clause-kept : goal.operators::unary_on-returns-in-Is-clause-kept
 operators::unary_on-returns-in-Is-clause-kept t c =
-    kept_then (trees_of c.args.here.now.site.now.codes.now.items) c.args.here.now.site.now.widget c.args.store.now c.eval_on.new.store c.prefix_on.new.store c.in_ok-how.ensures.kept c.prefix_on.ensures.kept
+    kept_then (trees_of c.args.here.now.site.now.codes.now.items) c.args.here.now.site.now.widget c.args.store.now c.operand_on.new.store c.prefix_on.new.store c.in_ok-how.ensures.kept c.prefix_on.ensures.kept
 
 pub operators::unary_on-returns-in_default-clause-comes : goal.operators::unary_on-returns-in_default-clause-comes
 operators::unary_on-returns-in_default-clause-comes t c =
     let fs = trees_of c.args.here.now.site.now.codes.now.items in
     let w = c.args.here.now.site.now.widget in
     let old = c.args.store.now in
-    let mid = c.eval_on.new.store in
+    let mid = c.operand_on.new.store in
     let p : State → Plan = λ s. Do (job_of fs w old.cells (job.Eval c.args.e c.args.here.now.at)) s Ret in
     let had = c.args.run.now in
-    let has = c.eval_on.new.run in
+    let has = c.operand_on.new.run in
     let how = c.in_ok-how.how in
-    let out = c.eval_on.new.out in
+    let out = c.operand_on.new.out in
     let part = c.in_ok-how.ensures.comes in
     let kept = c.in_ok-how.ensures.kept in
     hand_form fs w c.hand_prefix.result old mid 0 30 p (form.Prefix c.args.op c.args.here.now.at) had has c.hand_prefix.new.run how out part c.in_default.not-Is kept c.requires.held.0 (omega arith) c.hand_prefix.ensures

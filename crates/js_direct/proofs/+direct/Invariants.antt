@@ -1,12 +1,18 @@
+use Rattle.js_flow.specs.declared.job.Job.TheVariants as job
+use Rattle.store_cells.specs.declared.value.Value.TheVariants as value
+use Rattle.js_flow.specs.declared.frame.Frame.TheVariants as frame
+use Rattle.widget_meaning.specs.Values as meaning
+use Rattle.js_flow.specs.declared.frame.StatementFrame.TheVariants as statement
+use Rattle.js_direct.proofs.+direct.Given as goal
 use Rattle.js_flow.specs.Frames.{taken}
 use Rattle.std.proofs.Common.{drop, length, ◌*◌, ◌+◌, ◌-◌, ◌≡◌}
 use Rattle.js_tree.specs.Forest.{expr_at, stmt_at}
 use Rattle.widget_meaning.specs.Expressions.{array_parts, object_parts}
 use Rattle.js_image.specs.Image.{seen}
-use Rattle.js_image.specs.Held.{IsHeld, Kept, IsFine}
+use Rattle.js_image.specs.Held.{IsFine, IsHeld, Kept}
 use Rattle.js_names.specs.Code.{trees_of}
-use Rattle.js_flow.specs.Fine.{IsBlockAt, IsExprAt, IsStmtAt, FineNames}
-use Rattle.js_flow.specs.Parts.{arguments_of, block_list, decls_of, elements_of, forest_at, properties_of, clauses_of}
+use Rattle.js_flow.specs.Fine.{FineNames, IsBlockAt, IsExprAt, IsStmtAt}
+use Rattle.js_flow.specs.Parts.{arguments_of, block_list, clauses_of, decls_of, elements_of, forest_at, properties_of}
 use Rattle.js_flow.specs.Views.{job_of, place_of}
 use Rattle.js_direct.specs.Comes.{IsReady}
 use Rattle.js_direct.specs.Goes.{GoesOn}
@@ -14,13 +20,7 @@ use Rattle.js_flow.specs.Statements.{block_at}
 use Rattle.js_direct.specs.Towards.{Towards, part_of}
 use Rattle.js_direct.specs.Argues.{Argued}
 use Rattle.widget_meaning.specs.Plan.{Do, Ret}
-use Rattle.widget_meaning.specs.Statements.{declarations, expressions, choose_case}
-use Rattle.js_flow.specs.declared.job.Job.TheVariants as job
-use Rattle.store_cells.specs.declared.value.Value.TheVariants as value
-use Rattle.js_flow.specs.declared.frame.Frame.TheVariants as frame
-use Rattle.widget_meaning.specs.Values as meaning
-use Rattle.js_flow.specs.declared.frame.StatementFrame.TheVariants as statement
-use Rattle.js_direct.proofs.+direct.Given as goal
+use Rattle.widget_meaning.specs.Statements.{choose_case, declarations, expressions}
 
 -- by depth, and at one depth along the calls
 abbrev pub decreases-arrays::array_on : goal.decreases-arrays::array_on
@@ -53,6 +53,15 @@ decreases-assigning::assign_on l = 16 * l.deep + 7
 
 abbrev pub decreases-assigning::assign_plain : goal.decreases-assigning::assign_plain
 decreases-assigning::assign_plain l = 16 * l.deep + 6
+
+abbrev pub decreases-assigning::assign_by : goal.decreases-assigning::assign_by
+decreases-assigning::assign_by l = 16 * l.deep + 6
+
+abbrev pub decreases-assigning::compute_name : goal.decreases-assigning::compute_name
+decreases-assigning::compute_name l = 16 * l.deep + 3
+
+abbrev pub decreases-assigning::compute_with : goal.decreases-assigning::compute_with
+decreases-assigning::compute_with l = 16 * l.deep + 2
 
 abbrev pub decreases-assigning::assign_name : goal.decreases-assigning::assign_name
 decreases-assigning::assign_name l = 16 * l.deep + 2
@@ -344,7 +353,7 @@ abbrev pub decreases-operators::chosen_on : goal.decreases-operators::chosen_on
 decreases-operators::chosen_on l = 16 * l.deep + 1
 
 abbrev pub decreases-operators::unary_on : goal.decreases-operators::unary_on
-decreases-operators::unary_on l = 16 * l.deep + 1
+decreases-operators::unary_on l = 16 * l.deep + 2
 
 abbrev pub decreases-properties::dot_on : goal.decreases-properties::dot_on
 decreases-properties::dot_on l = 16 * l.deep + 2
