@@ -4,6 +4,7 @@ use Rattle.std.specs.Cmp.{nat_eq_equiv}
 use Rattle.std.specs.List.{IsDistinct, list_any, position_or_len, swap_remove}
 use Rattle.std.specs.Map.{keys_of, lookup, remove_entry}
 use Rattle.std.specs.Prelude.{Result, Ok, Err, OnErr}
+use Rattle.std.proofs.lemmas.Bool.Decides.{nat_tests}
 use Rattle.std.proofs.lemmas.List.{map-append}
 use Rattle.std.proofs.lemmas.Map.Entries.{length-keys_of}
 use Rattle.std.proofs.lemmas.Map.Keys.{IsDistinct-push}
@@ -118,6 +119,10 @@ module _ {X : Type 0} where
   keys_set v [] i d lt = absurd (omega (arith, lt))
   keys_set v (e ∷ es) zero d lt = refl
   keys_set v (e ∷ es) (suc i) d lt = ap (λ l. e.0 ∷ l) (keys_set v es i d (omega (arith, lt)))
+
+-- numbers that pass the test are the same
+pub same_number : (k n : ℕ) → eqb k n ≡ true → k ≡ n
+same_number k n e = grind (arith, nat_tests, e)
 
 -- what holds is so after a failure
 pub on_err : {A B P : Type 0} (r : Result A B) → P → OnErr r P

@@ -215,17 +215,69 @@ impl<V: Drop> PairTable<V> {
     }
 }
 
+// Where a map is looked at first: the elements of an array come in order behind its length, and no other number up to
+// the last index is 1 or less.
+#[inline(always)]
+fn guess(n: u32) -> usize {
+    n.saturating_sub(1) as usize
+}
+
+// Whether a number is at a place.
+#[inline(always)]
+fn is_near<V>(map: &IndexMap<u32, V, NumberKeys>, n: u32, place: usize) -> bool
+    ensures { result ≡ true → position (nat_eq n) (keys_of map.now.entries) ≡ Some place }
+{
+    // This says that the numbers differ.
+    let _len = map.len();
+    match map.get_index(place) {
+        Some((k, _value)) => *k == n,
+        None => false,
+    }
+}
+
+// The value under a number, where it is at a place.
+#[inline(always)]
+fn value_near<V>(map: &IndexMap<u32, V, NumberKeys>, n: u32, place: usize) -> Option<&V>
+    ensures { IfSome result (λ v. lookup (nat_eq n) map.now.entries ≡ Some v.now) }
+{
+    let (k, value) = map.get_index(place)?;
+    if *k == n { Some(value) } else { None }
+}
+
 // The place of a number in a map.
-#[inline(never)]
+#[inline(always)]
 fn place_in<V>(map: &IndexMap<u32, V, NumberKeys>, n: u32) -> Option<usize>
+    ensures { result ≡ position (nat_eq n) (keys_of map.now.entries) }
+{
+    let place = guess(n);
+    if is_near(map, n, place) {
+        return Some(place);
+    }
+    hashed_place(map, n)
+}
+
+// The same by its hash.
+#[inline(never)]
+fn hashed_place<V>(map: &IndexMap<u32, V, NumberKeys>, n: u32) -> Option<usize>
     ensures { result ≡ position (nat_eq n) (keys_of map.now.entries) }
 {
     map.get_index_of(&n)
 }
 
 // The value under a number in a map.
-#[inline(never)]
+#[inline(always)]
 fn get_in<V>(map: &IndexMap<u32, V, NumberKeys>, n: u32) -> Option<&V>
+    ensures { option_copied result ≡ lookup (nat_eq n) map.now.entries }
+{
+    match value_near(map, n, guess(n)) {
+        Some(value) => Some(value),
+        None => hashed_value(map, n),
+    }
+}
+
+// The same by its hash.
+#[inline(never)]
+fn hashed_value<V>(map: &IndexMap<u32, V, NumberKeys>, n: u32) -> Option<&V>
     ensures { option_copied result ≡ lookup (nat_eq n) map.now.entries }
 {
     map.get(&n)
@@ -278,22 +330,44 @@ fn insert_in<V: Drop>(
     ensures succeeds { 0 < spare map.old → IsOk result }
     ensures spare { spare map.old ≤ spare map.new + 1 }
 {
+    let place = guess(n);
+    if is_near(map, n, place) {
+        set_in(map, n, place, value);
+        return Ok(());
+    }
+    hashed_insert(map, n, value)
+}
+
+// The same by its hash.
+#[inline(never)]
+fn hashed_insert<V: Drop>(
+    map: &mut IndexMap<u32, V, NumberKeys>,
+    n: u32,
+    value: V,
+) -> Result<(), AllocError>
+    ensures entries { OnOk result (map.new.entries ≡ insert_entry nat_eq map.old.entries n value) }
+    ensures err { OnErr result (map.new.entries ≡ map.old.entries) }
+    ensures absent { OnErr result (lookup (nat_eq n) map.old.entries ≡ None) }
+    ensures succeeds { 0 < spare map.old → IsOk result }
+    ensures spare { spare map.old ≤ spare map.new + 1 }
+{
     match map.insert(n, value) {
         Ok(_) => Ok(()),
         Err(_) => Err(AllocError),
     }
 }
 
-// Puts a value under a number that a map has.
-#[inline(never)]
+// Puts a value under a number that a map has at a place.
+#[inline(always)]
 fn set_in<V: Drop>(map: &mut IndexMap<u32, V, NumberKeys>, n: u32, place: usize, value: V)
     requires { position (nat_eq n) (keys_of map.old.entries) ≡ Some place }
-    ensures { map.new.entries ≡ insert_entry nat_eq map.old.entries n value }
+    ensures entries { map.new.entries ≡ insert_entry nat_eq map.old.entries n value }
+    ensures spare { spare map.new ≡ spare map.old }
 {
-    let _place = place;
-    match map.insert(n, value) {
-        Ok(_) => {}
-        Err(_) => unreachable!(),
+    let _n = n;
+    match map.get_index_mut(place) {
+        Some(had) => *had = value,
+        None => unreachable!(),
     }
 }
 

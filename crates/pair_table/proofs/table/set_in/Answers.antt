@@ -1,9 +1,8 @@
-use Rattle.std.proofs.Common.{◌≡◌, ◌∙◌, None, Some}
-use Rattle.pair_table.proofs.Places.{found_value}
+use Rattle.std.proofs.Common.{eqb, sym}
+use Rattle.indexmap.proofs.MapLemmas.{Found-position, insert_entry-first}
 use Rattle.pair_table.proofs.table.set_in.Goals as goal
 
-none_some : {A : Type 0} {a : A} → Some a ≡ None → ⊥
-none_some e = cc
-
-pub unreachable-requires : goal.unreachable-requires
-unreachable-requires g c = none_some (found_value c.args.n c.args.map.now.entries c.args.place (c.args.n, c.args.value) c.requires ∙ c.in-Err.ensures.absent)
+pub returns-clause-entries : goal.returns-clause-entries
+returns-clause-entries g c =
+    let es = c.args.map.now.entries in
+    sym (insert_entry-first eqb c.args.n c.args.value es c.args.place (Found-position (eqb c.args.n) es c.args.place c.requires).first)
