@@ -1,5 +1,6 @@
 //! What is read from the store.
 ghost use Rattle.std.specs.Prelude.{◌≡◌, ℕ, ◌<◌, ◌≤◌, List, Option, IfOk, IfSome, is_some, pos, length, ◌||◌, option_copied, unwrap_or};
+ghost use Rattle.std.specs.Fmt.{decimal};
 ghost use Rattle.std.specs.Option.{option_map};
 ghost use Rattle.js_tree.specs.Forest.{Forest};
 ghost use Rattle.store_cells.specs.Cells.{first_own, prototypes};
@@ -75,6 +76,23 @@ pub fn property_at<'a>(store: &'a Store, cell: CellId, name: &Text) -> Option<&'
     lawful(store);
     let _links = store.chain(cell);
     store.get(cell, name)
+}
+
+/// The same under the name of an index below 2^30, of which no text is made.
+#[inline(always)]
+pub fn indexed_at(store: &Store, cell: CellId, i: u32) -> Option<&Value>
+    requires within { cell < length store.now.cells }
+    requires index { i < 1073741824 }
+    ensures found { (fs : List Forest) (r : Rest) (w : ℕ) → IsConfined fs w store.now
+        → IsFine w store.now.cells (Value.Ref cell)
+        → seen w store.now.cells (unwrap_or (option_copied result) Value.Undefined)
+        ≡ properties.get (image fs r w store.now) (seen w store.now.cells (Value.Ref cell)) (decimal i) }
+    ensures fine { (fs : List Forest) (w : ℕ) → IsConfined fs w store.now → IsFine w store.now.cells (Value.Ref cell)
+        → IsFine w store.now.cells (unwrap_or (option_copied result) Value.Undefined) }
+{
+    lawful(store);
+    let _links = store.chain(cell);
+    store.get_index(cell, i)
 }
 
 // The first own property along the prototypes of a cell, of which there are at most 100.

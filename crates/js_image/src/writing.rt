@@ -110,9 +110,72 @@ fn put_in(
     }
 }
 
+/// Writes under the name of an index below 2^30 of a cell that the widget holds, as `put` under that name, of which
+/// no text is made.
+#[inline(always)]
+pub fn put_at(store: &mut Store, w: u32, cell: CellId, i: u32, value: Value) -> Result<Written, Memory>
+    requires widget { w < 32 }
+    requires held { IsHeld w store.old.cells cell }
+    requires index { i < 1073741824 }
+    requires value { IsFine w store.old.cells value }
+    ensures plan { IfOk result (λ p. (fs : List Forest) (r : Rest) (k : State → Plan)
+        → properties.put (seen w store.old.cells (Value.Ref cell)) (decimal i) (seen w store.old.cells value)
+        (image fs r w store.old) k ≡ put_plan p k (image fs r w store.new)) }
+    ensures kept { (fs : List Forest) → Kept fs w store.old store.new }
+{
+    lawful(store);
+    let _paid = store.counts(Owner::Widget(w));
+    match store.put_index(cell, i, value) {
+        Ok(()) => Ok(Written::Done),
+        Err(fault) => refused(fault),
+    }
+}
+
 /// Puts an element behind the last of an Array of the widget, which has this length; the slot was paid
 /// before. An element that is there already is answered like want of memory.
 pub fn push_paid(
+    alloc: Global,
+    store: &mut Store,
+    w: u32,
+    array: CellId,
+    at: u32,
+    value: Value,
+) -> Result<(), Memory>
+    requires held { IsHeld w store.old.cells array }
+    requires value { IsFine w store.old.cells value }
+    requires below { at < 4294967295 }
+    ensures done { OnOk result ((fs : List Forest) (r : Rest) → PushedAt (own_count w store.old.cells array) at
+        (seen w store.old.cells (Value.Ref array)) (seen w store.old.cells value) (image fs r w store.old) (image fs r w store.new)) }
+    ensures kept { (fs : List Forest) → Kept fs w store.old store.new }
+{
+    if at < RULED {
+        push_index(store, w, array, at, value)
+    } else {
+        push_named(alloc, store, w, array, at, value)
+    }
+}
+
+// The same of an index below 2^30, of which no text is made.
+fn push_index(store: &mut Store, w: u32, array: CellId, at: u32, value: Value) -> Result<(), Memory>
+    requires index { at < RULED }
+    requires held { IsHeld w store.old.cells array }
+    requires value { IsFine w store.old.cells value }
+    requires below { at < 4294967295 }
+    ensures done { OnOk result ((fs : List Forest) (r : Rest) → PushedAt (own_count w store.old.cells array) at
+        (seen w store.old.cells (Value.Ref array)) (seen w store.old.cells value) (image fs r w store.old) (image fs r w store.new)) }
+    ensures kept { (fs : List Forest) → Kept fs w store.old store.new }
+{
+    lawful(store);
+    match store.put_index_paid(array, at, value) {
+        Ok(()) => Ok(()),
+        Err(_) => Err(Memory),
+    }
+}
+
+// The same by its name.
+#[cold]
+#[inline(never)]
+fn push_named(
     alloc: Global,
     store: &mut Store,
     w: u32,
@@ -134,6 +197,9 @@ pub fn push_paid(
         Err(_) => Err(Memory),
     }
 }
+
+// How many indices have their numbers by rule.
+const RULED: u32 = 1_073_741_824;
 
 // The name of an element.
 fn index_name(alloc: Global, at: u32) -> Result<Text, Memory>

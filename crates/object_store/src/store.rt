@@ -1,5 +1,6 @@
 //! The store.
 ghost use Rattle.std.specs.Prelude.{◌≡◌, ℕ, option_to_list, map, ◌&&◌, ◌+◌, ◌+ℤ◌, ◌<◌, ◌≤◌, [], ◌∷◌, ◌++◌, None, Some, true, false, is_some, nat_eq, length, slice_get, option_copied, IfOk, IfErr, IfSome, IfNone, OnErr, OnOk};
+ghost use Rattle.std.specs.Fmt.{decimal};
 ghost use Rattle.std.specs.Option.{option_and_then, option_map};
 ghost use Rattle.object_store.specs.Owned.{Made, SeesPut, SeesRemoved, SeesSet, is_held_by, is_of_at, is_own_scope, node_of, nodes_in, own_cell, own_paid, own_scope, owned, scope_number, ScopeMade, SeesPaid};
 ghost use Rattle.std.specs.List.{IsDistinct, list_any};
@@ -22,7 +23,7 @@ use indexmap::IndexMap;
 use js_tree::FunId;
 use keyed_names::{Keys, NumberKeys};
 use permitted_table::{HostEntry, NativeId};
-use property_names::PropertyNames;
+use property_names::{PropertyNames, RULED};
 use std::alloc::Global;
 use std::marker::Model;
 use store_cells::cell::{Cell, Maker};
@@ -547,6 +548,17 @@ impl Store {
         self.get_along(from, name)
     }
 
+    /// The value under the name of an index below 2^30, as `get` under that name, of which no text is made.
+    #[inline(always)]
+    pub fn get_index(&self, cell: CellId, i: u32) -> Option<&Value>
+        requires at { cell < length self.now.cells }
+        requires index { i < RULED }
+        ensures { option_copied result ≡ first_own (decimal i) (readable self.now.cells cell) }
+    {
+        let from = self.read_start(cell)?;
+        self.index_along(from, i)
+    }
+
     // The cell at which a read begins.
     #[inline(always)]
     fn read_start(&self, cell: CellId) -> Option<CellId>
@@ -583,6 +595,48 @@ impl Store {
         self.links_are_older();
         self.bunches_have_nodes();
         self.put_in(cell, name, value)
+    }
+
+    /// Writes under the name of an index below 2^30, as `put` under that name, of which no text is made.
+    pub fn put_index(&mut self, cell: CellId, i: u32, value: Value) -> Result<(), StoreFault>
+        requires at { cell < length self.old.cells }
+        requires index { i < RULED }
+        requires value { IsRefWithin (length self.old.cells) value }
+        ensures ok { OnOk result (IsPut self.old self.new cell (decimal i) value) }
+        ensures err { IfErr result (λ e. Refuses e (put_refusal self.old cell (decimal i) value)) }
+        ensures same { OnErr result (self.new ≡ self.old) }
+
+        // Its widget sees the write, and another has what it had.
+        ensures own { OnOk result ((w : ℕ) → SeesPut w self.old self.new cell (decimal i) value) }
+        ensures others { (w : ℕ) → is_of_at w self.old.cells cell ≡ false → owned w self.new ≡ owned w self.old }
+        ensures grows { (w : ℕ) → Grows w self.old.cells self.new.cells }
+    {
+        // These laws say that what other cells lead to stays.
+        self.links_are_older();
+        self.bunches_have_nodes();
+        self.put_index_in(cell, i, value)
+    }
+
+    // `put_index`, without what widgets see of it.
+    fn put_index_in(&mut self, cell: CellId, i: u32, value: Value) -> Result<(), StoreFault>
+        requires at { cell < length self.old.cells }
+        requires index { i < RULED }
+        requires value { IsRefWithin (length self.old.cells) value }
+        ensures ok { OnOk result (IsPut self.old self.new cell (decimal i) value) }
+        ensures err { IfErr result (λ e. Refuses e (put_refusal self.old cell (decimal i) value)) }
+        ensures same { OnErr result (self.new ≡ self.old) }
+    {
+        let held = table::cell(&self.cells, cell);
+        let Some(w) = held.writer() else {
+            return Err(StoreFault::Closed);
+        };
+        let plan = held.index_plan(i);
+        let n = self.names.of_index(i);
+        let slots = held.slots_for(Some(n));
+        counts::afford(&self.kept, w, 0, slots as usize)?;
+        table::write_index(&self.names, &mut self.cells, cell, n, i, value, plan)?;
+        counts::pay(&mut self.kept, w, 0, slots);
+        Ok(())
     }
 
     // `put`, without what widgets see of it.
@@ -628,6 +682,49 @@ impl Store {
         self.links_are_older();
         self.bunches_have_nodes();
         self.put_paid_in(cell, name, value)
+    }
+
+    /// Writes under the name of an index below 2^30 whose slot was paid before, as `put_paid` under that name.
+    pub fn put_index_paid(&mut self, cell: CellId, i: u32, value: Value) -> Result<(), StoreFault>
+        requires at { cell < length self.old.cells }
+        requires index { i < RULED }
+        requires value { IsRefWithin (length self.old.cells) value }
+        ensures ok { OnOk result (IsPutPaid self.old self.new cell (decimal i) value) }
+        ensures err { IfErr result (λ e. Refuses e (paid_refusal self.old cell (decimal i) value)) }
+        ensures same { OnErr result (self.new ≡ self.old) }
+
+        // Its widget sees the write, and another has what it had.
+        ensures own { OnOk result ((w : ℕ) → SeesPaid w self.old self.new cell (decimal i) value) }
+        ensures others { (w : ℕ) → is_of_at w self.old.cells cell ≡ false → owned w self.new ≡ owned w self.old }
+        ensures grows { (w : ℕ) → Grows w self.old.cells self.new.cells }
+    {
+        // These laws say that what other cells lead to stays.
+        self.links_are_older();
+        self.bunches_have_nodes();
+        self.put_index_paid_in(cell, i, value)
+    }
+
+    // `put_index_paid`, without what widgets see of it.
+    fn put_index_paid_in(&mut self, cell: CellId, i: u32, value: Value) -> Result<(), StoreFault>
+        requires at { cell < length self.old.cells }
+        requires index { i < RULED }
+        requires value { IsRefWithin (length self.old.cells) value }
+        ensures ok { OnOk result (IsPutPaid self.old self.new cell (decimal i) value) }
+        ensures err { IfErr result (λ e. Refuses e (paid_refusal self.old cell (decimal i) value)) }
+        ensures same { OnErr result (self.new ≡ self.old) }
+    {
+        let held = table::cell(&self.cells, cell);
+        let Some(_w) = held.writer() else {
+            return Err(StoreFault::Closed);
+        };
+        let n = self.names.of_index(i);
+        let slots = held.slots_for(Some(n));
+        if slots == 0 {
+            return Err(StoreFault::Closed);
+        }
+        let plan = held.index_plan(i);
+        table::write_index(&self.names, &mut self.cells, cell, n, i, value, plan)?;
+        Ok(())
     }
 
     // `put_paid`, without what widgets see of it.
@@ -1141,6 +1238,15 @@ impl Store {
         let value = Value::Num(Number::Whole(sum));
         table::set_variable(&self.names, &mut self.cells, spot, name, n, value);
         Some(z)
+    }
+
+    #[inline(always)]
+    fn index_along(&self, cell: CellId, i: u32) -> Option<&Value>
+        requires at { cell < length self.now.cells }
+        requires index { i < RULED }
+        ensures { option_copied result ≡ value_along self.now.cells cell (decimal i) }
+    {
+        table::found(&self.cells, cell, self.names.of_index(i))
     }
 
     #[inline(always)]

@@ -86,6 +86,9 @@ no_length : (us : List ℕ) → AreDigits us → bytes_eq us (codes "length") �
 no_length [] h = refl
 no_length (u ∷ us) h = apart u us (codes "length") h.0 (omega arith)
 
+pub index_no_length : (n : ℕ) → bytes_eq (decimal n) (codes "length") ≡ false
+index_no_length n = no_length (decimal n) (digits_are n)
+
 pub listed_index : (array : Bool) (n : ℕ) → (is_permitted (decimal n) && not (array && bytes_eq (decimal n) (codes "length"))) ≡ true
 listed_index array n = (λ j. permitted_index n j && not (array && no_length (decimal n) (digits_are n) j)) ∙ by array
   where

@@ -277,6 +277,12 @@ index_at keys n i two is =
     let k = number_known n i is in
     ap (λ (o : Option (List ℕ)). option_and_then index_of o) (seen_index keys i n two k.1 k.0) ∙ index_only (decimal i) i (omega (arith, k.1)) refl
 
+-- the name of an index below the bound
+pub ruled_decimal : (i : ℕ) → i < RULED → ruled_index (decimal i) ≡ Some i
+ruled_decimal i lt =
+    let below : nat_lt i RULED ≡ true = grind (arith, nat_tests, lt) in
+    ap (option_and_then below_bound) (index_only (decimal i) i (omega (arith, lt)) refl) ∙ (λ j. if below j then Some i else None)
+
 -- a name and its number
 pub number_of_index : (keys all : List (List ℕ)) (name : List ℕ) (i : ℕ) → seen keys ≡ all → AreOthers keys → ruled_index name ≡ Some i → (slice_get all (2 + i) ≡ Some name) × (2 + i < length all)
 number_of_index keys all name i view h is =

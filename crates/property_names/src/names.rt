@@ -183,6 +183,18 @@ impl PropertyNames {
         }
     }
 
+    /// The number of the name that an index below the bound is.
+    #[inline(always)]
+    pub fn of_index(&self, i: u32) -> u32
+        requires { i < RULED }
+        ensures number { slice_get self.now result ≡ Some (decimal i) }
+        ensures within { result < length self.now }
+    {
+        // To read the field opens what the type keeps.
+        let _names = &self.names;
+        FIRST_INDEX + i
+    }
+
     // The number of a name that was not found before.
     #[inline(never)]
     fn looked_up(&self, name: &Text) -> Option<u32>

@@ -1,8 +1,11 @@
 -- What a plan says of a write.
 use Rattle.std.proofs.Common.{◌≡◌, ℕ, ◌+◌, List, refl, sym, ap, ◌∙◌, Option, Some, None, Bool, true, false, if◌then◌else◌, true≢false, length}
-use Rattle.std.specs.Prelude.{nat_lt}
+use Rattle.std.specs.Fmt.{decimal}
+use Rattle.std.specs.Prelude.{nat_lt, ◌<◌}
 use Rattle.std.specs.Option.{option_map, option_map_or, option_and_then}
 use Rattle.std.specs.Str.{bytes_eq}
+use Rattle.code_units.proofs.Indexed.{index_only}
+use Rattle.property_names.proofs.Digits.{index_no_length}
 use Rattle.keyed_names.specs.Interned.{IsTable}
 use Rattle.keyed_names.proofs.Interning.{same_test}
 use Rattle.store_cells.specs.declared.value.Value.{Value}
@@ -42,6 +45,20 @@ longer_same n e h = cc
 
 length_same : (n e : ℕ) → Some (write.Length n) ≡ Some (write.Length e) → n ≡ e
 length_same n e h = cc
+
+-- the plan of the name of an index
+pub index_plan_is : (i : ℕ) (v : Value) (c : NumberedCell) → i < 4294967295 → plan_of (decimal i) v c ≡ Some (if is_array c.head.form then element_plan (numbered_length c.entries) (Some i) else write.Own 0)
+index_plan_is i v c lt = by (is_array c.head.form)
+  where
+    no : bytes_eq (decimal i) length_name ≡ false
+    no = index_no_length i
+
+    is : index_of (decimal i) ≡ Some i
+    is = index_only (decimal i) i lt refl
+
+    by : (a : Bool) → (if a then (if bytes_eq (decimal i) length_name then option_map (λ n. write.Length n) (length_in v) else Some (element_plan (numbered_length c.entries) (index_of (decimal i)))) else Some (write.Own 0)) ≡ Some (if a then element_plan (numbered_length c.entries) (Some i) else write.Own 0)
+    by true = λ j. if no j then option_map (λ n. write.Length n) (length_in v) else Some (element_plan (numbered_length c.entries) (is j))
+    by false = refl
 
 -- an element plan that writes under the name alone
 own_element : (len e : ℕ) (o : Option ℕ) → element_plan len o ≡ write.Own e → e ≡ option_map_or (λ i. i + 1) o 0

@@ -2,6 +2,7 @@
 ghost use Rattle.std.specs.Prelude.{◌≡◌, ℕ, suc, List, [], None, Some, true, false, is_some, nat_eq, if◌then◌else◌, OnErr, OnOk, option_copied, option_map, slice_get, IfSome, ◌<◌, length, IfOk};
 ghost use Rattle.std.specs.List.{IsDistinct, list_any};
 ghost use Rattle.std.specs.Map.{keys_of as numbers_of, lookup};
+ghost use Rattle.std.specs.Fmt.{decimal};
 ghost use Rattle.std.specs.Option.{option_map_or};
 ghost use Rattle.store_cells.specs.Arrays.{count_value, keys_of, length_in};
 ghost use Rattle.store_cells.specs.Cells.{is_array, is_scope, writer_in};
@@ -284,6 +285,20 @@ impl Cell {
             return length_in(value).map(|len| Write::Length { len });
         }
         Some(element_plan(self.length(), index_of(name)))
+    }
+
+    /// How a write under the name of an index goes.
+    #[tactic(auto, using(crate::proofs::Plans::index_plan_is))]
+    #[inline(always)]
+    pub fn index_plan(&self, i: u32) -> Write
+        requires { i < 4294967295 }
+        ensures { (v : Value) → plan_of (decimal i) v self.now ≡ Some result }
+    {
+        if self.head.form.is_array() {
+            element_plan(self.length(), Some(i))
+        } else {
+            Write::Own { end: 0 }
+        }
     }
 
     /// The slots that a write under a name costs.

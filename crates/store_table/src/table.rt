@@ -1,6 +1,7 @@
 //! What the store does, on its list of cells by number.
 ghost use Rattle.std.specs.Prelude.{◌≡◌, ◌+◌, ◌<◌, [], ◌∷◌, ◌++◌, None, Some, false, nat_eq, length, map, vec_len, slice_get, option_copied, option_map, IfOk, IfSome, OnErr, OnOk, MatchOption, true};
 ghost use Rattle.std.specs.List.{IsDistinct, fold};
+ghost use Rattle.std.specs.Fmt.{decimal};
 ghost use Rattle.std.specs.Map.{lookup};
 ghost use Rattle.std.specs.Str.{bytes_eq};
 ghost use Rattle.indexmap.specs.IndexMap.{insert_entry, spare};
@@ -265,6 +266,39 @@ pub fn write(
             resize(names, cells, target.cell, name, value, len);
             Ok(())
         }
+    }
+}
+
+/// Writes under the name of an index, whose number is `n`, as the plan says.
+pub fn write_index(
+    names: &PropertyNames,
+    cells: &mut Vec<Cell>,
+    i: CellId,
+    n: u32,
+    at: u32,
+    value: Value,
+    plan: Write,
+) -> Result<(), Memory>
+    requires at { i < vec_len cells.old }
+    requires number { (slice_get names.now n ≡ Some (decimal at)) × (n < length names.now) }
+    requires base { IsBase names.now cells.old.items }
+    requires value { IsRefWithin (length cells.old.items) value }
+    requires plan { IsPlanned cells.old.items i (decimal at) value plan }
+    ensures ok { OnOk result (Wrote names.now cells.old.items names.now cells.new.items i (by_plan plan (decimal at) value)) }
+    ensures err { OnErr result (cells.new.items ≡ cells.old.items) }
+{
+    // The contract alone speaks of the index.
+    let _at = at;
+    match plan {
+        Write::Own { end } => {
+            make_places(names, cells, i, 1)?;
+            write_at(cells, i, n, value, end)
+        }
+        Write::Longer { len } => {
+            make_places(names, cells, i, 2)?;
+            write_two_at(cells, i, n, value, count_value(len), len)
+        }
+        Write::Length { .. } => Err(Memory),
     }
 }
 

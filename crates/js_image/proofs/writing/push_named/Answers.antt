@@ -4,7 +4,7 @@ use Rattle.object_store.specs.Calls.{IsPutPaid}
 use Rattle.object_store.specs.Owned.{Changed, own_put, own_value}
 use Rattle.js_image.proofs.Named.{decimal_permitted}
 use Rattle.js_image.proofs.Pushes.{push_kept, pushed_at}
-use Rattle.js_image.proofs.writing.push_paid.Goals as goal
+use Rattle.js_image.proofs.writing.push_named.Goals as goal
 
 pub returns-in-Ok-clause-done : goal.returns-in-Ok-clause-done
 returns-in-Ok-clause-done c = λ fs r. pushed_at fs r c.args.w c.args.store.now c.put_paid.new.self c.args.array c.args.at c.args.value c.requires.below c.requires.held
