@@ -18,9 +18,9 @@ ghost use Rattle.js_direct.specs.Goes.{GoesOn};
 
 use crate::forms::eval_on;
 use crate::run::{Ended, Here, Run, Site, stop, take_value, throw, wait};
-use code_units::{Memory, whole_text};
+use code_units::Memory;
 use js_flow::{FormFrame, Frame, element_at};
-use js_image::{Made, Written, make, put};
+use js_image::{Made, Written, make, put_at};
 use js_tree::ExprId;
 use object_store::{CellId, NewCell, Store, Value};
 
@@ -153,9 +153,11 @@ fn put_element(
     let Ok(index) = u32::try_from(n) else {
         return Err(Memory);
     };
-    let name = whole_text(site.alloc, i64::from(index))?;
+    if index >= 1_073_741_824 {
+        return Err(Memory);
+    }
     let value = take_value(out);
-    match put(store, site.widget, &Value::Ref(array), &name, value)? {
+    match put_at(store, site.widget, array, index, value)? {
         Written::Done => Ok(Ended::Is),
         Written::Throw(fault) => throw(site, run, store, fault, out),
         Written::Stop(cause) => stop(run, cause),

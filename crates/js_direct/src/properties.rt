@@ -1,5 +1,5 @@
 //! Properties: a base, its subscript, and the read.
-ghost use Rattle.std.specs.Prelude.{◌≡◌, ℕ, ◌<◌, List, IfOk, MatchOption};
+ghost use Rattle.std.specs.Prelude.{◌≡◌, ℕ, ◌<◌, List, IfOk, IfSome, MatchOption, pos};
 ghost use Rattle.js_tree.specs.Trees.{trees};
 ghost use Rattle.store_cells.specs.Cells.{PlainCell};
 ghost use Rattle.widget_meaning.specs.Properties as properties;
@@ -19,10 +19,10 @@ use crate::forms::{eval_on, operand_on};
 use crate::run::{Ended, Here, Run, Site, clear, share_to, take_value, throw, wait};
 use code_units::{Memory, Text};
 use js_flow::{FormFrame, Frame, Job, Place};
-use js_image::{Fault, get, property_at};
+use js_image::{Fault, get, indexed_at, property_at};
 use js_tree::ExprId;
 use js_values::to_text;
-use object_store::{CellId, Store, Value};
+use object_store::{CellId, Number, Store, Value};
 use std::alloc::Global;
 
 /// A property by its name.
@@ -179,25 +179,64 @@ pub(crate) fn sub_on(
         run.old run.new how out.new) }
     ensures kept { Kept (trees_of here.now.site.now.codes.now.items) here.now.site.now.widget store.old store.new }
 {
-    match eval_on(here, run, store, parts.0, deep, out)? {
-        Ended::Is => subscript_on(here, run, store, parts.1, deep, out),
-        how => hand_base(run, how, parts.1, &here.at),
+    let mut base = Value::Undefined;
+    sub_with(here, run, store, parts, deep, &mut base, out)
+}
+
+// The same with a place for the base.
+#[inline(always)]
+#[cycle(direct)]
+fn sub_with(
+    here: &Here,
+    run: &mut Run,
+    store: &mut Store,
+    parts: (ExprId, ExprId),
+    deep: u32,
+    base: &mut Value,
+    out: &mut Value,
+) -> Result<Ended, Memory>
+    requires ready { IsReady (trees_of here.now.site.now.codes.now.items) here.now.site.now.widget store.old run.old }
+    requires held { IsExprAt (trees_of here.now.site.now.codes.now.items) here.now.site.now.widget store.old.cells
+        parts.0 here.now.at
+        × IsExprAt (trees_of here.now.site.now.codes.now.items) here.now.site.now.widget store.old.cells parts.1
+        here.now.at }
+    requires tree { trees here.now.tree.now ≡ forest_at (trees_of here.now.site.now.codes.now.items) here.now.at.code }
+    ensures comes { let F = trees_of here.now.site.now.codes.now.items in let w = here.now.site.now.widget in
+        IfOk result (λ how. Comes F w store.old store.new 30
+        (λ s. Do (job_of F w store.old.cells (Job.Eval parts.0 here.now.at)) s
+        (taken F w store.old.cells (Frame.Form (FormFrame.SubBase parts.1 here.now.at))))
+        run.old run.new how out.new) }
+    ensures kept { Kept (trees_of here.now.site.now.codes.now.items) here.now.site.now.widget store.old store.new }
+{
+    match operand_on(here, run, store, parts.0, deep, base)? {
+        Ended::Is => subscript_on(here, run, store, parts.1, deep, base, out),
+        how => hand_base(run, how, parts.1, &here.at, base, out),
     }
 }
 
-// The end of the base that is no value, where a subscript follows.
+// The end of the base that is no value, where a subscript follows; what it threw is at the place then.
 #[cold]
 #[inline(never)]
-fn hand_base(run: &mut Run, how: Ended, e: ExprId, place: &Place) -> Result<Ended, Memory>
-    ensures { IfOk result (λ h. HandsOn run.old run.new how h (Frame.Form (FormFrame.SubBase e place.now))) }
+fn hand_base(
+    run: &mut Run,
+    how: Ended,
+    e: ExprId,
+    place: &Place,
+    base: &mut Value,
+    out: &mut Value,
+) -> Result<Ended, Memory>
+    ensures hands { IfOk result (λ h. HandsOn run.old run.new how h (Frame.Form (FormFrame.SubBase e place.now))) }
+    ensures value { IfOk result (λ h. out.new ≡ base.old) }
 {
+    *out = take_value(base);
     match how {
         Ended::Left => wait(run, Frame::Form(FormFrame::SubBase(e, *place))),
         how => Ok(how),
     }
 }
 
-// The subscript of the base that is at the place.
+// The subscript of a base.
+#[inline(always)]
 #[cycle(direct)]
 fn subscript_on(
     here: &Here,
@@ -205,30 +244,115 @@ fn subscript_on(
     store: &mut Store,
     index: ExprId,
     deep: u32,
+    base: &mut Value,
     out: &mut Value,
 ) -> Result<Ended, Memory>
     requires ready { IsReady (trees_of here.now.site.now.codes.now.items) here.now.site.now.widget store.old run.old }
     requires held { IsExprAt (trees_of here.now.site.now.codes.now.items) here.now.site.now.widget store.old.cells
         index here.now.at
-        × IsFine here.now.site.now.widget store.old.cells out.old }
+        × IsFine here.now.site.now.widget store.old.cells base.old }
     requires tree { trees here.now.tree.now ≡ forest_at (trees_of here.now.site.now.codes.now.items) here.now.at.code }
     ensures comes { let F = trees_of here.now.site.now.codes.now.items in let w = here.now.site.now.widget in
         IfOk result (λ how. Comes F w store.old store.new 1
         (taken F w store.old.cells (Frame.Form (FormFrame.SubBase index here.now.at))
-        (meaning.Is (seen w store.old.cells out.old)))
+        (meaning.Is (seen w store.old.cells base.old)))
         run.old run.new how out.new) }
     ensures kept { Kept (trees_of here.now.site.now.codes.now.items) here.now.site.now.widget store.old store.new }
 {
-    let base = take_value(out);
-    match eval_on(here, run, store, index, deep, out)? {
-        Ended::Is => named_on(here.site, run, store, &base, out),
-        Ended::Left => wait(run, Frame::Form(FormFrame::Sub(base))),
+    match operand_on(here, run, store, index, deep, out)? {
+        Ended::Is => named_on(here.site, run, store, base, out),
+        how => hand_sub(run, how, base),
+    }
+}
+
+// The end of the subscript that is no value.
+#[cold]
+#[inline(never)]
+fn hand_sub(run: &mut Run, how: Ended, base: &mut Value) -> Result<Ended, Memory>
+    ensures { IfOk result (λ h. HandsOn run.old run.new how h (Frame.Form (FormFrame.Sub base.old))) }
+{
+    match how {
+        Ended::Left => wait(run, Frame::Form(FormFrame::Sub(take_value(base)))),
         how => Ok(how),
     }
 }
 
+/// The index of a cell that a base and its subscript are.
+#[derive(Clone, Copy, Drop)]
+pub(crate) struct Indexed {
+    pub cell: CellId,
+    pub index: u32,
+}
+
+/// The index of a cell that a base and its subscript are, where that is below 2^30, as most are; else none.
+#[inline(always)]
+pub(crate) fn indexed(base: &Value, subscript: &Value) -> Option<Indexed>
+    ensures { IfSome result (λ at. (base.now ≡ Value.Ref at.cell)
+        × (subscript.now ≡ Value.Num (Number.Whole (pos at.index))) × (at.index < 1073741824)) }
+{
+    let cell = cell_at(base)?;
+    let index = index_in(subscript)?;
+    Some(Indexed { cell, index })
+}
+
+// The index below 2^30 that a value is.
+#[inline(always)]
+fn index_in(value: &Value) -> Option<u32>
+    ensures { IfSome result (λ i. (value.now ≡ Value.Num (Number.Whole (pos i))) × (i < 1073741824)) }
+{
+    match value {
+        Value::Num(Number::Whole(z)) => below_bound(*z),
+        _ => None,
+    }
+}
+
+// A number as an index below 2^30.
+#[inline(always)]
+fn below_bound(z: i64) -> Option<u32>
+    ensures { IfSome result (λ i. (z ≡ pos i) × (i < 1073741824)) }
+{
+    match u32::try_from(z) {
+        Ok(i) => {
+            if i < 1_073_741_824 {
+                Some(i)
+            } else {
+                None
+            }
+        }
+        Err(_) => None,
+    }
+}
+
 // A property of a base, by the subscript at the place.
+#[inline(always)]
 fn named_on(
+    site: &Site,
+    run: &mut Run,
+    store: &mut Store,
+    base: &Value,
+    out: &mut Value,
+) -> Result<Ended, Memory>
+    requires ready { IsReady (trees_of site.now.codes.now.items) site.now.widget store.old run.old }
+    requires held { IsFine site.now.widget store.old.cells base.now
+        × IsFine site.now.widget store.old.cells out.old }
+    ensures comes { let F = trees_of site.now.codes.now.items in let w = site.now.widget in
+        IfOk result (λ how. Comes F w store.old store.new 1
+        (taken F w store.old.cells (Frame.Form (FormFrame.Sub base.now)) (meaning.Is (seen w store.old.cells out.old)))
+        run.old run.new how out.new) }
+    ensures kept { Kept (trees_of site.now.codes.now.items) site.now.widget store.old store.new }
+{
+    match indexed(base, out) {
+        Some(at) => {
+            share_to(indexed_at(store, at.cell, at.index), out)?;
+            Ok(Ended::Is)
+        }
+        None => named_any(site, run, store, base, out),
+    }
+}
+
+// The same by the name of the subscript.
+#[inline(never)]
+fn named_any(
     site: &Site,
     run: &mut Run,
     store: &mut Store,

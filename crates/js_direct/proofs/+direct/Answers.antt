@@ -4611,91 +4611,17 @@ properties::dot_on-returns-in_default-clause-comes t c =
     let kept = c.in_ok-how.ensures.kept in
     hand_form fs w c.hand_dot.result old mid 0 30 p (form.Dot c.args.name.now) had has c.hand_dot.new.run how out part c.in_default.not-Is kept tt (omega arith) c.hand_dot.ensures
 
-pub properties::sub_on-subscript_on-requires : goal.properties::sub_on-subscript_on-requires
-properties::sub_on-subscript_on-requires t c = (
-  search rules,
-  (
-    (
-        let fs = trees_of c.args.here.now.site.now.codes.now.items in
-        let w = c.args.here.now.site.now.widget in
-        let old = c.args.store.now in
-        let mid = c.eval_on.new.store in
-        let p : State → Plan = λ s. Do (job_of fs w old.cells (job.Eval c.args.parts.0 c.args.here.now.at)) s Ret in
-        let had = c.args.run.now in
-        let has = c.eval_on.new.run in
-        let how = c.in_ok-how.how in
-        let out = c.eval_on.new.out in
-        let part = c.in_ok-how.ensures.comes in
-        let kept = c.in_ok-how.ensures.kept in
-        value_ready fs w old mid 0 p had has how (ended_as how out) part c.in-Is.is kept c.requires.ready
-        ),
-    (
-      (
-          let fs = trees_of c.args.here.now.site.now.codes.now.items in
-          let w = c.args.here.now.site.now.widget in
-          let old = c.args.store.now in
-          let mid = c.eval_on.new.store in
-          let p : State → Plan = λ s. Do (job_of fs w old.cells (job.Eval c.args.parts.0 c.args.here.now.at)) s Ret in
-          let had = c.args.run.now in
-          let has = c.eval_on.new.run in
-          let how = c.in_ok-how.how in
-          let out = c.eval_on.new.out in
-          let part = c.in_ok-how.ensures.comes in
-          let kept = c.in_ok-how.ensures.kept in
-          ((place_fine fs w old.cells mid.cells kept.grows c.args.here.now.at c.requires.held.1.0, c.requires.held.1.1), value_fine fs w old mid 0 p had has how out part c.in-Is.is)
-          ),
-      c.requires.tree,
-    ),
-  ),
-)
-
-pub properties::sub_on-returns-in-Is-clause-comes : goal.properties::sub_on-returns-in-Is-clause-comes
-properties::sub_on-returns-in-Is-clause-comes t c =
-    let fs = trees_of c.args.here.now.site.now.codes.now.items in
-    let w = c.args.here.now.site.now.widget in
-    let old = c.args.store.now in
-    let mid = c.eval_on.new.store in
-    let p : State → Plan = λ s. Do (job_of fs w old.cells (job.Eval c.args.parts.0 c.args.here.now.at)) s Ret in
-    let had = c.args.run.now in
-    let has = c.eval_on.new.run in
-    let how = c.in_ok-how.how in
-    let out = c.eval_on.new.out in
-    let part = c.in_ok-how.ensures.comes in
-    let kept = c.in_ok-how.ensures.kept in
-    (IfOk-weaker c.subscript_on.result _ _
-    (λ h x. value_then fs w old mid c.subscript_on.new.store 0 1 30 p (form.SubBase c.args.parts.1 c.args.here.now.at) had has c.subscript_on.new.run how h out _ part c.in-Is.is kept c.requires.held.1 x (omega arith))
-    c.subscript_on.ensures.comes)
-
-pub properties::sub_on-returns-in-Is-clause-kept : goal.properties::sub_on-returns-in-Is-clause-kept
-properties::sub_on-returns-in-Is-clause-kept t c =
-    kept_then (trees_of c.args.here.now.site.now.codes.now.items) c.args.here.now.site.now.widget c.args.store.now c.eval_on.new.store c.subscript_on.new.store c.in_ok-how.ensures.kept c.subscript_on.ensures.kept
-
-pub properties::sub_on-returns-in_default-clause-comes : goal.properties::sub_on-returns-in_default-clause-comes
-properties::sub_on-returns-in_default-clause-comes t c =
-    let fs = trees_of c.args.here.now.site.now.codes.now.items in
-    let w = c.args.here.now.site.now.widget in
-    let old = c.args.store.now in
-    let mid = c.eval_on.new.store in
-    let p : State → Plan = λ s. Do (job_of fs w old.cells (job.Eval c.args.parts.0 c.args.here.now.at)) s Ret in
-    let had = c.args.run.now in
-    let has = c.eval_on.new.run in
-    let how = c.in_ok-how.how in
-    let out = c.eval_on.new.out in
-    let part = c.in_ok-how.ensures.comes in
-    let kept = c.in_ok-how.ensures.kept in
-    hand_form fs w c.hand_base.result old mid 0 30 p (form.SubBase c.args.parts.1 c.args.here.now.at) had has c.hand_base.new.run how out part c.in_default.not-Is kept c.requires.held.1 (omega arith) c.hand_base.ensures
-
 pub properties::subscript_on-named_on-requires-clause-ready : goal.properties::subscript_on-named_on-requires-clause-ready
 properties::subscript_on-named_on-requires-clause-ready t c =
     let fs = trees_of c.args.here.now.site.now.codes.now.items in
     let w = c.args.here.now.site.now.widget in
     let old = c.args.store.now in
-    let mid = c.eval_on.new.store in
+    let mid = c.operand_on.new.store in
     let p : State → Plan = λ s. Do (job_of fs w old.cells (job.Eval c.args.index c.args.here.now.at)) s Ret in
     let had = c.args.run.now in
-    let has = c.eval_on.new.run in
+    let has = c.operand_on.new.run in
     let how = c.in_ok-how.how in
-    let out = c.eval_on.new.out in
+    let out = c.operand_on.new.out in
     let part = c.in_ok-how.ensures.comes in
     let kept = c.in_ok-how.ensures.kept in
     value_ready fs w old mid 0 p had has how (ended_as how out) part c.in-Is.is kept c.requires.ready
@@ -4705,79 +4631,53 @@ properties::subscript_on-named_on-requires-clause-held t c =
     let fs = trees_of c.args.here.now.site.now.codes.now.items in
     let w = c.args.here.now.site.now.widget in
     let old = c.args.store.now in
-    let mid = c.eval_on.new.store in
+    let mid = c.operand_on.new.store in
     let p : State → Plan = λ s. Do (job_of fs w old.cells (job.Eval c.args.index c.args.here.now.at)) s Ret in
     let had = c.args.run.now in
-    let has = c.eval_on.new.run in
+    let has = c.operand_on.new.run in
     let how = c.in_ok-how.how in
-    let out = c.eval_on.new.out in
+    let out = c.operand_on.new.out in
     let part = c.in_ok-how.ensures.comes in
     let kept = c.in_ok-how.ensures.kept in
-    (fine_stays w old.cells mid.cells kept.grows c.take_value-base.result (subst (λ (b : Value2). IsFine w old.cells b) (sym c.take_value-base.ensures.taken) c.requires.held.1), value_fine fs w old mid 0 p had has how out part c.in-Is.is)
+    (fine_stays w old.cells mid.cells kept.grows c.args.base.now c.requires.held.1, value_fine fs w old mid 0 p had has how out part c.in-Is.is)
 
 pub properties::subscript_on-returns-in-Is-clause-comes : goal.properties::subscript_on-returns-in-Is-clause-comes
 properties::subscript_on-returns-in-Is-clause-comes t c =
     let fs = trees_of c.args.here.now.site.now.codes.now.items in
     let w = c.args.here.now.site.now.widget in
     let old = c.args.store.now in
-    let mid = c.eval_on.new.store in
+    let mid = c.operand_on.new.store in
     let p : State → Plan = λ s. Do (job_of fs w old.cells (job.Eval c.args.index c.args.here.now.at)) s Ret in
     let had = c.args.run.now in
-    let has = c.eval_on.new.run in
+    let has = c.operand_on.new.run in
     let how = c.in_ok-how.how in
-    let out = c.eval_on.new.out in
+    let out = c.operand_on.new.out in
     let part = c.in_ok-how.ensures.comes in
     let kept = c.in_ok-how.ensures.kept in
-    let is = c.take_value-base.ensures.taken in
-    let fine = subst (λ (b : Value2). IsFine w old.cells b) (sym is) c.requires.held.1 in
-    subst (λ (b : Value2). IfOk c.named_on.result (λ h. Comes fs w old c.named_on.new.store 1 (λ s. taken fs w old.cells (frame.Form (form.SubBase c.args.index c.args.here.now.at)) (meaning.Is (seen w old.cells b)) s) had c.named_on.new.run h c.named_on.new.out)) is
+    let fine = c.requires.held.1 in
     (IfOk-weaker c.named_on.result _ _
-    (λ h x. value_then fs w old mid c.named_on.new.store 0 1 1 p (form.Sub c.take_value-base.result) had has c.named_on.new.run how h out _ part c.in-Is.is kept fine x (omega arith))
+    (λ h x. value_then fs w old mid c.named_on.new.store 0 1 1 p (form.Sub c.args.base.now) had has c.named_on.new.run how h out _ part c.in-Is.is kept fine x (omega arith))
     c.named_on.ensures.comes)
 
 pub properties::subscript_on-returns-in-Is-clause-kept : goal.properties::subscript_on-returns-in-Is-clause-kept
 properties::subscript_on-returns-in-Is-clause-kept t c =
-    kept_then (trees_of c.args.here.now.site.now.codes.now.items) c.args.here.now.site.now.widget c.args.store.now c.eval_on.new.store c.named_on.new.store c.in_ok-how.ensures.kept c.named_on.ensures.kept
+    kept_then (trees_of c.args.here.now.site.now.codes.now.items) c.args.here.now.site.now.widget c.args.store.now c.operand_on.new.store c.named_on.new.store c.in_ok-how.ensures.kept c.named_on.ensures.kept
 
-pub properties::subscript_on-returns-in-Left-clause-comes : goal.properties::subscript_on-returns-in-Left-clause-comes
-properties::subscript_on-returns-in-Left-clause-comes t c =
+pub properties::subscript_on-returns-in_default-clause-comes : goal.properties::subscript_on-returns-in_default-clause-comes
+properties::subscript_on-returns-in_default-clause-comes t c =
     let fs = trees_of c.args.here.now.site.now.codes.now.items in
     let w = c.args.here.now.site.now.widget in
     let old = c.args.store.now in
-    let mid = c.eval_on.new.store in
+    let mid = c.operand_on.new.store in
     let p : State → Plan = λ s. Do (job_of fs w old.cells (job.Eval c.args.index c.args.here.now.at)) s Ret in
     let had = c.args.run.now in
-    let has = c.eval_on.new.run in
+    let has = c.operand_on.new.run in
     let how = c.in_ok-how.how in
-    let out = c.eval_on.new.out in
+    let out = c.operand_on.new.out in
     let part = c.in_ok-how.ensures.comes in
     let kept = c.in_ok-how.ensures.kept in
-    let is = c.take_value-base.ensures.taken in
-    let fine = subst (λ (b : Value2). IsFine w old.cells b) (sym is) c.requires.held.1 in
-    subst (λ (b : Value2). IfOk c.wait.result (λ h. Comes fs w old mid 1 (λ s. taken fs w old.cells (frame.Form (form.SubBase c.args.index c.args.here.now.at)) (meaning.Is (seen w old.cells b)) s) had c.wait.new.run h out)) is
-    (frame_waits fs w c.wait.result old mid 0 1 p (frame.Form (form.Sub c.take_value-base.result)) had has c.wait.new.run how (ended_as how out) (λ (h : Ended). ended_as h out) part c.in-Left.is kept fine (omega arith)
-    c.wait.ensures.left c.wait.ensures.waits c.wait.ensures.next c.wait.ensures.units)
-
-pub properties::subscript_on-returns-in_default : goal.properties::subscript_on-returns-in_default
-properties::subscript_on-returns-in_default t c =
-    let fs = trees_of c.args.here.now.site.now.codes.now.items in
-    let w = c.args.here.now.site.now.widget in
-    let old = c.args.store.now in
-    let mid = c.eval_on.new.store in
-    let p : State → Plan = λ s. Do (job_of fs w old.cells (job.Eval c.args.index c.args.here.now.at)) s Ret in
-    let had = c.args.run.now in
-    let has = c.eval_on.new.run in
-    let how = c.in_ok-how.how in
-    let out = c.eval_on.new.out in
-    let part = c.in_ok-how.ensures.comes in
-    let kept = c.in_ok-how.ensures.kept in
-    let is = c.take_value-base.ensures.taken in
-    let fine = subst (λ (b : Value2). IsFine w old.cells b) (sym is) c.requires.held.1 in
-    record {
-      comes = subst (λ (b : Value2). Comes fs w old mid 1 (λ s. taken fs w old.cells (frame.Form (form.SubBase c.args.index c.args.here.now.at)) (meaning.Is (seen w old.cells b)) s) had has how out) is
-          (value_passes fs w old mid 0 1 p (form.Sub c.take_value-base.result) had has how out part c.in_default.not-Is c.in_default.not-Left kept fine (omega arith));
-      kept = kept;
-    }
+    let fine = c.requires.held.1 in
+    hand_form fs w c.hand_sub.result old mid 0 1 p (form.Sub c.args.base.now) had has c.hand_sub.new.run how out part c.in_default.not-Is kept fine (omega arith) c.hand_sub.ensures
 
 pub statements::exec_on-returns-clause-comes : goal.statements::exec_on-returns-clause-comes
 statements::exec_on-returns-clause-comes t c =
@@ -5612,6 +5512,81 @@ targets::found_target-returns-in_default t c =
           (value_passes fs w s c.form_on.new.store 30 31 (body (job_of fs w s.cells (job.Eval c.args.id c.args.here.now.at))) (form.Found) c.args.run.now c.form_on.new.run c.in_ok-other.other c.form_on.new.out c.in_ok-other.ensures.comes c.in_default.not-Is c.in_default.not-Left c.form_on.ensures.kept tt (omega arith)) c.in_default.not-Is;
       kept = c.form_on.ensures.kept;
     }
+
+pub properties::sub_with-subscript_on-requires : goal.properties::sub_with-subscript_on-requires
+properties::sub_with-subscript_on-requires t c = (
+  search rules,
+  (
+    (
+        let fs = trees_of c.args.here.now.site.now.codes.now.items in
+        let w = c.args.here.now.site.now.widget in
+        let old = c.args.store.now in
+        let mid = c.operand_on.new.store in
+        let p : State → Plan = λ s. Do (job_of fs w old.cells (job.Eval c.args.parts.0 c.args.here.now.at)) s Ret in
+        let had = c.args.run.now in
+        let has = c.operand_on.new.run in
+        let how = c.in_ok-how.how in
+        let out = c.operand_on.new.out in
+        let part = c.in_ok-how.ensures.comes in
+        let kept = c.in_ok-how.ensures.kept in
+        value_ready fs w old mid 0 p had has how (ended_as how out) part c.in-Is.is kept c.requires.ready
+        ),
+    (
+      (
+          let fs = trees_of c.args.here.now.site.now.codes.now.items in
+          let w = c.args.here.now.site.now.widget in
+          let old = c.args.store.now in
+          let mid = c.operand_on.new.store in
+          let p : State → Plan = λ s. Do (job_of fs w old.cells (job.Eval c.args.parts.0 c.args.here.now.at)) s Ret in
+          let had = c.args.run.now in
+          let has = c.operand_on.new.run in
+          let how = c.in_ok-how.how in
+          let out = c.operand_on.new.out in
+          let part = c.in_ok-how.ensures.comes in
+          let kept = c.in_ok-how.ensures.kept in
+          ((place_fine fs w old.cells mid.cells kept.grows c.args.here.now.at c.requires.held.1.0, c.requires.held.1.1), value_fine fs w old mid 0 p had has how out part c.in-Is.is)
+          ),
+      c.requires.tree,
+    ),
+  ),
+)
+
+pub properties::sub_with-returns-in-Is-clause-comes : goal.properties::sub_with-returns-in-Is-clause-comes
+properties::sub_with-returns-in-Is-clause-comes t c =
+    let fs = trees_of c.args.here.now.site.now.codes.now.items in
+    let w = c.args.here.now.site.now.widget in
+    let old = c.args.store.now in
+    let mid = c.operand_on.new.store in
+    let p : State → Plan = λ s. Do (job_of fs w old.cells (job.Eval c.args.parts.0 c.args.here.now.at)) s Ret in
+    let had = c.args.run.now in
+    let has = c.operand_on.new.run in
+    let how = c.in_ok-how.how in
+    let out = c.operand_on.new.out in
+    let part = c.in_ok-how.ensures.comes in
+    let kept = c.in_ok-how.ensures.kept in
+    (IfOk-weaker c.subscript_on.result _ _
+    (λ h x. value_then fs w old mid c.subscript_on.new.store 0 1 30 p (form.SubBase c.args.parts.1 c.args.here.now.at) had has c.subscript_on.new.run how h out _ part c.in-Is.is kept c.requires.held.1 x (omega arith))
+    c.subscript_on.ensures.comes)
+
+pub properties::sub_with-returns-in-Is-clause-kept : goal.properties::sub_with-returns-in-Is-clause-kept
+properties::sub_with-returns-in-Is-clause-kept t c =
+    kept_then (trees_of c.args.here.now.site.now.codes.now.items) c.args.here.now.site.now.widget c.args.store.now c.operand_on.new.store c.subscript_on.new.store c.in_ok-how.ensures.kept c.subscript_on.ensures.kept
+
+pub properties::sub_with-returns-in_default-clause-comes : goal.properties::sub_with-returns-in_default-clause-comes
+properties::sub_with-returns-in_default-clause-comes t c =
+    let fs = trees_of c.args.here.now.site.now.codes.now.items in
+    let w = c.args.here.now.site.now.widget in
+    let old = c.args.store.now in
+    let mid = c.operand_on.new.store in
+    let p : State → Plan = λ s. Do (job_of fs w old.cells (job.Eval c.args.parts.0 c.args.here.now.at)) s Ret in
+    let had = c.args.run.now in
+    let has = c.operand_on.new.run in
+    let how = c.in_ok-how.how in
+    let out = c.operand_on.new.out in
+    let part = c.in_ok-how.ensures.comes in
+    let kept = c.in_ok-how.ensures.kept in
+    placed_ok c.hand_base.result (λ h v. Comes fs w old mid 30 (λ s. and_then (p s) (form_taken fs w old.cells (form.SubBase c.args.parts.1 c.args.here.now.at))) had c.hand_base.new.run h v) out c.hand_base.new.out c.hand_base.ensures.value
+    (hand_form fs w c.hand_base.result old mid 0 30 p (form.SubBase c.args.parts.1 c.args.here.now.at) had has c.hand_base.new.run how out part c.in_default.not-Is kept c.requires.held.1 (omega arith) c.hand_base.ensures.hands)
 
 pub targets::deleted_on-remove_on-requires-clause-ready : goal.targets::deleted_on-remove_on-requires-clause-ready
 targets::deleted_on-remove_on-requires-clause-ready t c =

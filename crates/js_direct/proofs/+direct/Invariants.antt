@@ -359,10 +359,13 @@ abbrev pub decreases-properties::dot_on : goal.decreases-properties::dot_on
 decreases-properties::dot_on l = 16 * l.deep + 2
 
 abbrev pub decreases-properties::sub_on : goal.decreases-properties::sub_on
-decreases-properties::sub_on l = 16 * l.deep + 2
+decreases-properties::sub_on l = 16 * l.deep + 4
+
+abbrev pub decreases-properties::sub_with : goal.decreases-properties::sub_with
+decreases-properties::sub_with l = 16 * l.deep + 3
 
 abbrev pub decreases-properties::subscript_on : goal.decreases-properties::subscript_on
-decreases-properties::subscript_on l = 16 * l.deep + 1
+decreases-properties::subscript_on l = 16 * l.deep + 2
 
 abbrev pub decreases-statements::exec_on : goal.decreases-statements::exec_on
 decreases-statements::exec_on l = 16 * l.deep + 0

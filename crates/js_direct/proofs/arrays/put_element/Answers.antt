@@ -1,5 +1,6 @@
 use Rattle.std.proofs.Common.{◌≡◌, sym, ap, ◌∙◌, refl, rules, arith}
 use Rattle.std.proofs.lemmas.Result.{IfOk-weaker}
+use Rattle.std.specs.Fmt.{decimal}
 use Rattle.store_cells.specs.declared.value.Value.TheVariants as value
 use Rattle.widget_meaning.specs.Costs.{throw}
 use Rattle.widget_meaning.specs.Plan.{Halt}
@@ -17,12 +18,12 @@ returns-in-Done-clause-done c = λ t.
     let fs = trees_of c.args.site.now.codes.now.items in
     let w = c.args.site.now.widget in
     let old = c.args.store.now in
-    let new = c.put.new.store in
+    let new = c.put_at.new.store in
     let a = seen w old.cells (value.Ref c.args.array) in
-    let named : index_name c.args.n ≡ c.in_ok-name.name = search rules in (
+    let named : index_name c.args.n ≡ decimal c.in-Ok.index = search rules in (
       refl,
       λ r k. (λ i. put a (named i) (seen w old.cells (sym c.take_value-value.ensures.taken i)) (image fs r w old) k)
-          ∙ (c.in_ok-put.ensures.plan fs r k ∙ ap (λ q. put_plan q k (image fs r w new)) c.in-Done.is),
+          ∙ (c.in_ok-put_at.ensures.plan fs r k ∙ ap (λ q. put_plan q k (image fs r w new)) c.in-Done.is),
     )
 
 pub returns-in-Done-clause-comes : goal.returns-in-Done-clause-comes
@@ -36,13 +37,13 @@ returns-in-Throw-clause-comes c =
     let fs = trees_of c.args.site.now.codes.now.items in
     let w = c.args.site.now.widget in
     let old = c.args.store.now in
-    let mid = c.put.new.store in
+    let mid = c.put_at.new.store in
     let a = seen w old.cells (value.Ref c.args.array) in
-    let named : index_name c.args.n ≡ c.in_ok-name.name = search rules in
+    let named : index_name c.args.n ≡ decimal c.in-Ok.index = search rules in
     IfOk-weaker c.throw.result _ _
     (λ h x no k. before_then fs w old mid c.throw.new.store 1 1 (λ s. put a (index_name c.args.n) (seen w old.cells c.args.out.now) s k) (throw (meant_fault c.in-Throw.fault)) c.args.run.now c.throw.new.run h _
     (λ r. (λ i. put a (named i) (seen w old.cells (sym c.take_value-value.ensures.taken i)) (image fs r w old) k)
-    ∙ (c.in_ok-put.ensures.plan fs r k ∙ ap (λ q. put_plan q k (image fs r w mid)) c.in-Throw.is))
+    ∙ (c.in_ok-put_at.ensures.plan fs r k ∙ ap (λ q. put_plan q k (image fs r w mid)) c.in-Throw.is))
     x (omega arith))
     c.throw.ensures.comes
 
@@ -54,17 +55,17 @@ returns-clause-comes c =
     let fs = trees_of c.args.site.now.codes.now.items in
     let w = c.args.site.now.widget in
     let old = c.args.store.now in
-    let new = c.put.new.store in
+    let new = c.put_at.new.store in
     let a = seen w old.cells (value.Ref c.args.array) in
-    let named : index_name c.args.n ≡ c.in_ok-name.name = search rules in
+    let named : index_name c.args.n ≡ decimal c.in-Ok.index = search rules in
     IfOk-weaker c.stop.result _ _
     (λ h x no k. before_it fs w old new 0 1 (λ s. put a (index_name c.args.n) (seen w old.cells c.args.out.now) s k) (λ t. Halt (meant_cause c.in-Stop.cause) t) c.args.run.now c.stop.new.run h _
     (λ r. (λ i. put a (named i) (seen w old.cells (sym c.take_value-value.ensures.taken i)) (image fs r w old) k)
-    ∙ (c.in_ok-put.ensures.plan fs r k ∙ ap (λ q. put_plan q k (image fs r w new)) c.in-Stop.is))
+    ∙ (c.in_ok-put_at.ensures.plan fs r k ∙ ap (λ q. put_plan q k (image fs r w new)) c.in-Stop.is))
     (x fs w new c.take_value-value.new.out) (omega arith))
     c.stop.ensures.comes
 
 pub returns-in-Throw-clause-kept : goal.returns-in-Throw-clause-kept
 returns-in-Throw-clause-kept c =
     let fs = trees_of c.args.site.now.codes.now.items in
-    kept_then fs c.args.site.now.widget c.args.store.now c.put.new.store c.throw.new.store (c.put.ensures.kept fs) c.throw.ensures.kept
+    kept_then fs c.args.site.now.widget c.args.store.now c.put_at.new.store c.throw.new.store (c.put_at.ensures.kept fs) c.throw.ensures.kept
