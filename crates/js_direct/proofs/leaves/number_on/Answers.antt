@@ -6,7 +6,7 @@ use Rattle.widget_meaning.specs.Values as meaning
 use Rattle.js_image.specs.Image.{image}
 use Rattle.js_names.specs.Code.{trees_of}
 use Rattle.js_flow.specs.Views.{place_of}
-use Rattle.js_direct.proofs.FormFrames.{gives_value}
+use Rattle.js_direct.proofs.Handing.{is_shared}
 use Rattle.js_direct.proofs.leaves.number_on.Goals as goal
 
 pub returns : goal.returns
@@ -16,6 +16,6 @@ returns c =
     let s = c.args.store.now in
     let p = place_of w s.cells c.args.here.now.at in
     record {
-      comes = λ run none. gives_value fs w s s 30 (expression (node.Num c.args.text.now) p) run c.number.result none
+      comes = λ run none. is_shared fs w s 30 (expression (node.Num c.args.text.now) p) run c.number.result c.set_value.new.out c.set_value.ensures none
           (λ r. sym (ap (λ u. Ret (meaning.Is u) (image fs r w s)) (c.number.ensures.value w s.cells))) (c.number.ensures.fine w s.cells) (omega arith);
     }
