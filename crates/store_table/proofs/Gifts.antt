@@ -13,7 +13,7 @@ use Rattle.code_units.specs.Indices.{index_of}
 use Rattle.store_cells.specs.Cells.{PlainCell, is_array}
 use Rattle.store_cells.specs.Arrays.{length_name, length_in}
 use Rattle.property_names.specs.Seen.{HasWords}
-use Rattle.store_cells.specs.Shape.{AreWords}
+use Rattle.store_cells.specs.Shape.{AreWords, IsBase, Kept}
 use Rattle.store_cells.specs.Numbered.{NumberedCell, heads, plan_of, element_plan, numbered_length}
 use Rattle.store_table.specs.Bare.{no_arrays, with_gifts}
 use Rattle.store_table.specs.Bare.{Gift}
@@ -85,6 +85,10 @@ on_ok_then (Err x) a b d e g = tt
 pub on_err : {X E Y : Type 0} (r : Result X E) → Y → OnErr r Y
 on_err (Ok x) y = tt
 on_err (Err e) y = y
+
+-- nothing is done
+pub kept_as_is : (names : List (List ℕ)) (cs : List NumberedCell) → IsBase names cs → Kept names cs names cs
+kept_as_is names cs base = record { done = refl; base = base; heads = refl }
 
 -- gifts to the same cells
 pub gifts_then : (x : List PlainCell) (a b : List Gift) (y z : List PlainCell) → x ≡ with_gifts a b y → y ≡ z → x ≡ with_gifts a b z

@@ -269,7 +269,55 @@ pub fn write(
     }
 }
 
-/// Writes under the name of an index, whose number is `n`, as the plan says.
+// Writes under the name of an index alone, whose number is `n`.
+fn own_index(
+    names: &PropertyNames,
+    cells: &mut Vec<Cell>,
+    i: CellId,
+    n: u32,
+    at: u32,
+    value: Value,
+    end: u32,
+) -> Result<(), Memory>
+    requires at { i < vec_len cells.old }
+    requires number { (slice_get names.now n ≡ Some (decimal at)) × (n < length names.now) }
+    requires base { IsBase names.now cells.old.items }
+    requires value { IsRefWithin (length cells.old.items) value }
+    requires plan { IsPlanned cells.old.items i (decimal at) value (Write.Own end) }
+    ensures ok { OnOk result (Wrote names.now cells.old.items names.now cells.new.items i (written (decimal at) value)) }
+    ensures err { OnErr result (Kept names.now cells.old.items names.now cells.new.items) }
+{
+    // The contract alone speaks of the index.
+    let _at = at;
+    make_places(names, cells, i, 1)?;
+    write_at(cells, i, n, value, end)
+}
+
+// Writes an element at or past the length of an Array under the number of its name, and the length.
+fn longer_index(
+    names: &PropertyNames,
+    cells: &mut Vec<Cell>,
+    i: CellId,
+    n: u32,
+    at: u32,
+    value: Value,
+    len: u32,
+) -> Result<(), Memory>
+    requires at { i < vec_len cells.old }
+    requires number { (slice_get names.now n ≡ Some (decimal at)) × (n < length names.now) }
+    requires base { IsBase names.now cells.old.items }
+    requires value { IsRefWithin (length cells.old.items) value }
+    requires plan { IsPlanned cells.old.items i (decimal at) value (Write.Longer len) }
+    ensures ok { OnOk result (Wrote names.now cells.old.items names.now cells.new.items i (by_plan (Write.Longer len) (decimal at) value)) }
+    ensures err { OnErr result (Kept names.now cells.old.items names.now cells.new.items) }
+{
+    let _at = at;
+    make_places(names, cells, i, 2)?;
+    write_two_at(cells, i, n, value, count_value(len), len)
+}
+
+/// Writes under the name of an index, whose number is `n`, as the plan says. No plan of an index is of a `length`.
+#[tactic(auto, using(crate::proofs::Gifts::kept_as_is))]
 pub fn write_index(
     names: &PropertyNames,
     cells: &mut Vec<Cell>,
@@ -285,19 +333,11 @@ pub fn write_index(
     requires value { IsRefWithin (length cells.old.items) value }
     requires plan { IsPlanned cells.old.items i (decimal at) value plan }
     ensures ok { OnOk result (Wrote names.now cells.old.items names.now cells.new.items i (by_plan plan (decimal at) value)) }
-    ensures err { OnErr result (cells.new.items ≡ cells.old.items) }
+    ensures err { OnErr result (Kept names.now cells.old.items names.now cells.new.items) }
 {
-    // The contract alone speaks of the index.
-    let _at = at;
     match plan {
-        Write::Own { end } => {
-            make_places(names, cells, i, 1)?;
-            write_at(cells, i, n, value, end)
-        }
-        Write::Longer { len } => {
-            make_places(names, cells, i, 2)?;
-            write_two_at(cells, i, n, value, count_value(len), len)
-        }
+        Write::Own { end } => own_index(names, cells, i, n, at, value, end),
+        Write::Longer { len } => longer_index(names, cells, i, n, at, value, len),
         Write::Length { .. } => Err(Memory),
     }
 }
