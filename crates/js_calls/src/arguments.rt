@@ -22,7 +22,7 @@ ghost use Rattle.js_flow.specs.Left.{all_frames};
 use crate::invoking::invoke;
 use code_units::Memory;
 use js_flow::{Args, Argument, Call, CallFrame, Flow, Frame, Job, Place, Reference, argument_at};
-use js_image::{get, variable};
+use js_image::{get, indexed_value, variable};
 use js_names::{Code, tree_at};
 use js_tree::ExprId;
 use object_store::{Store, Value};
@@ -203,6 +203,7 @@ fn referred(
     match of {
         Reference::Variable(x) => variable(store, place.scope, x),
         Reference::Property(base, x) => get(store, base, x),
+        Reference::Element(cell, i) => indexed_value(store, *cell, *i),
         Reference::Found(v) => v.share(),
     }
 }
@@ -215,6 +216,7 @@ fn base_of(of: Reference) -> Option<Value>
 {
     match of {
         Reference::Property(base, _) => Some(base),
+        Reference::Element(cell, _) => Some(Value::Ref(cell)),
         _ => None,
     }
 }

@@ -487,7 +487,7 @@ fn assign_written(
         run.old run.new how out.new) }
     ensures kept { Kept (trees_of here.now.site.now.codes.now.items) here.now.site.now.widget store.old store.new }
 {
-    match eval_on(here, run, store, e, deep, out)? {
+    match operand_on(here, run, store, e, deep, out)? {
         Ended::Is => write_value(here, run, store, of, out),
         Ended::Left => wait_written(run, of, &here.at),
         other => Ok(other),

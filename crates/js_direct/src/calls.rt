@@ -505,6 +505,7 @@ fn take_base(of: &mut Reference) -> Option<Value>
 {
     match mem::replace(of, Reference::Found(Value::Undefined)) {
         Reference::Property(base, _) => Some(base),
+        Reference::Element(cell, _) => Some(Value::Ref(cell)),
         _ => None,
     }
 }

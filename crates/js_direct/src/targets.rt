@@ -15,12 +15,12 @@ ghost use Rattle.js_flow.specs.Views.{job_of, place_of, reference_of};
 ghost use Rattle.js_direct.specs.Hands.{HandsOn};
 ghost use Rattle.js_direct.specs.Comes.{Comes, IsReady, Reaches};
 
-use crate::forms::{eval_on, form_on};
-use crate::properties::{is_nothing, name_of};
+use crate::forms::{form_on, operand_on};
+use crate::properties::{indexed, is_nothing, name_of};
 use crate::run::{Ended, Here, Run, Site, leave_job, take_value, throw, wait};
 use code_units::{Memory, Text};
 use js_flow::{FormFrame, Frame, Job, Place, Reference};
-use js_image::{Fault, Removed, get, remove, variable};
+use js_image::{Fault, Removed, get, indexed_value, remove, variable};
 use js_tree::{Expr, ExprId};
 use object_store::{Store, Value};
 use std::mem;
@@ -132,7 +132,7 @@ fn dot_target(
         run.old run.new how of.new out.new) }
     ensures kept { Kept (trees_of here.now.site.now.codes.now.items) here.now.site.now.widget store.old store.new }
 {
-    match eval_on(here, run, store, e, deep, out)? {
+    match operand_on(here, run, store, e, deep, out)? {
         Ended::Is => refer_on(here.site, run, store, name.share()?, of, out),
         other => hand_dot(run, other, name),
     }
@@ -199,7 +199,7 @@ fn sub_target(
         run.old run.new how of.new out.new) }
     ensures kept { Kept (trees_of here.now.site.now.codes.now.items) here.now.site.now.widget store.old store.new }
 {
-    match eval_on(here, run, store, parts.0, deep, out)? {
+    match operand_on(here, run, store, parts.0, deep, out)? {
         Ended::Is => index_target(here, run, store, parts.1, deep, of, out),
         other => hand_base(run, other, parts.1, &here.at),
     }
@@ -268,7 +268,7 @@ fn index_of_target(
         run.old run.new how of.new out.new) }
     ensures kept { Kept (trees_of here.now.site.now.codes.now.items) here.now.site.now.widget store.old store.new }
 {
-    match eval_on(here, run, store, index, deep, out)? {
+    match operand_on(here, run, store, index, deep, out)? {
         Ended::Is => refer_by(here.site, run, store, base, of, out),
         Ended::Left => wait(run, Frame::Form(FormFrame::TargetSub(take_value(base)))),
         other => Ok(other),
@@ -277,6 +277,33 @@ fn index_of_target(
 
 // The property of a base by the subscript at the place.
 fn refer_by(
+    site: &Site,
+    run: &mut Run,
+    store: &mut Store,
+    base: &mut Value,
+    of: &mut Reference,
+    out: &mut Value,
+) -> Result<Ended, Memory>
+    requires ready { IsReady (trees_of site.now.codes.now.items) site.now.widget store.old run.old }
+    requires held { IsFine site.now.widget store.old.cells base.old }
+    ensures comes { let F = trees_of site.now.codes.now.items in let w = site.now.widget in
+        IfOk result (λ how. Reaches F w store.old store.new 1
+        (expressions.refer (seen w store.old.cells base.old) (meaning.to_text (seen w store.old.cells out.old)))
+        run.old run.new how of.new out.new) }
+    ensures kept { Kept (trees_of site.now.codes.now.items) site.now.widget store.old store.new }
+{
+    match indexed(base, out) {
+        Some(at) => {
+            set_reference(of, Reference::Element(at.cell, at.index));
+            Ok(Ended::Is)
+        }
+        None => refer_named(site, run, store, base, of, out),
+    }
+}
+
+// The same by the name of the subscript.
+#[inline(never)]
+fn refer_named(
     site: &Site,
     run: &mut Run,
     store: &mut Store,
@@ -344,6 +371,7 @@ pub(crate) fn referred(here: &Here, store: &Store, of: &Reference) -> Result<Val
     match of {
         Reference::Variable(x) => variable(store, here.at.scope, x),
         Reference::Property(base, x) => get(store, base, x),
+        Reference::Element(cell, i) => indexed_value(store, *cell, *i),
         Reference::Found(v) => v.share(),
     }
 }

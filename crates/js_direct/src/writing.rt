@@ -1,5 +1,6 @@
 //! Writes to references, carried out in place.
 ghost use Rattle.std.specs.Prelude.{◌≡◌, ◌<◌, ◌++◌, [], ◌∷◌, IfOk};
+ghost use Rattle.std.specs.Fmt.{decimal};
 ghost use Rattle.widget_meaning.specs.Values as meaning;
 ghost use Rattle.widget_meaning.specs.Costs as costs;
 ghost use Rattle.widget_meaning.specs.Properties as properties;
@@ -16,8 +17,8 @@ use crate::run::{Ended, Here, Run, Site, stop, throw, wait};
 use crate::targets::take_reference;
 use code_units::{Memory, Text};
 use js_flow::{FormFrame, Frame, Place, Reference};
-use js_image::{Written, assign, put};
-use object_store::{Store, Value};
+use js_image::{Written, assign, put, put_at};
+use object_store::{CellId, Store, Value};
 
 /// A value is written to a reference; then the value at the place is given.
 pub(crate) fn write_on(
@@ -46,6 +47,7 @@ pub(crate) fn write_on(
             Ok(Ended::Is)
         }
         Reference::Property(base, x) => put_on(here.site, run, store, base, x, value, out),
+        Reference::Element(cell, i) => put_at_on(here.site, run, store, *cell, *i, value, out),
         Reference::Found(_) => Ok(Ended::Is),
     }
 }
@@ -71,6 +73,33 @@ fn put_on(
     ensures kept { Kept (trees_of site.now.codes.now.items) site.now.widget store.old store.new }
 {
     match put(store, site.widget, base, name, value)? {
+        Written::Done => Ok(Ended::Is),
+        Written::Throw(fault) => throw(site, run, store, fault, out),
+        Written::Stop(cause) => stop(run, cause),
+    }
+}
+
+// A value is written to the property of a cell under an index; then the value at the place is given.
+fn put_at_on(
+    site: &Site,
+    run: &mut Run,
+    store: &mut Store,
+    cell: CellId,
+    i: u32,
+    value: Value,
+    out: &mut Value,
+) -> Result<Ended, Memory>
+    requires ready { IsReady (trees_of site.now.codes.now.items) site.now.widget store.old run.old }
+    requires to { IsFine site.now.widget store.old.cells (Value.Ref cell) × (i < 1073741824) }
+    requires values { IsFine site.now.widget store.old.cells value × IsFine site.now.widget store.old.cells out.old }
+    ensures comes { let F = trees_of site.now.codes.now.items in let w = site.now.widget in
+        IfOk result (λ how. Comes F w store.old store.new 1
+        (λ s. properties.put (seen w store.old.cells (Value.Ref cell)) (decimal i) (seen w store.old.cells value) s
+        (costs.give (seen w store.old.cells out.old)))
+        run.old run.new how out.new) }
+    ensures kept { Kept (trees_of site.now.codes.now.items) site.now.widget store.old store.new }
+{
+    match put_at(store, site.widget, cell, i, value)? {
         Written::Done => Ok(Ended::Is),
         Written::Throw(fault) => throw(site, run, store, fault, out),
         Written::Stop(cause) => stop(run, cause),

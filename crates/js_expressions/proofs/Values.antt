@@ -20,7 +20,7 @@ use Rattle.js_tree.specs.declared.nodes.UnOp.{UnOp}
 use Rattle.js_tree.specs.declared.nodes.UnOp.TheVariants as un
 use Rattle.widget_meaning.specs.Plan.{Place, Ret, after, and_then}
 use Rattle.widget_meaning.specs.Operators as operators
-use Rattle.widget_meaning.specs.Expressions.{result, unary_on}
+use Rattle.widget_meaning.specs.Expressions.{refer, result, unary_on}
 use Rattle.widget_meaning.specs.Calls.{call_to_string, to_primitive}
 use Rattle.widget_meaning.specs.Properties.{get, is_function, is_function_kind, read}
 use Rattle.js_image.specs.Held.{IsFine}
@@ -35,6 +35,14 @@ fine_within w cells (value.Bool b) h = tt
 fine_within w cells (value.Num n) h = tt
 fine_within w cells (value.Text t) h = tt
 fine_within w cells (value.Ref i) h = h.0
+
+-- a reference to a property of a cell
+pub refer_cell : (w : ℕ) (cells : List PlainCell) (i : ℕ) (x : List ℕ) (s : State) → refer (seen w cells (value.Ref i)) x s ≡ Ret (meaning.Refers (meaning.Property (seen w cells (value.Ref i)) x)) s
+refer_cell w cells i x s = by (visible_at w cells i)
+  where
+    by : (b : Bool) → refer (meant (if b then store.Own (own_count w cells i) else store.Other i)) x s ≡ Ret (meaning.Refers (meaning.Property (meant (if b then store.Own (own_count w cells i) else store.Other i)) x)) s
+    by true = refl
+    by false = refl
 
 -- a value that has properties is read
 pub read_other : (w : ℕ) (cells : List PlainCell) (v : Value) (x : List ℕ) (s : State) → (v ≡ value.Undefined → ⊥) → (v ≡ value.Null → ⊥) → read (seen w cells v) x s ≡ give (get s (seen w cells v) x) s

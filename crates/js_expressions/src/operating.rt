@@ -22,7 +22,7 @@ ghost use Rattle.js_flow.specs.Left.{all_frames};
 
 use crate::handing::convert;
 use crate::reading::throw;
-use code_units::Memory;
+use code_units::{Memory, Text, whole_text};
 use js_flow::{Completion, Flow, FormFrame, Place, Reference};
 use js_image::{Callee, Paid, Removed, StopCause, callee, pay_text, remove};
 use js_names::Code;
@@ -323,10 +323,37 @@ pub(crate) fn delete(
     ensures below { OnOk result (flow.new.below ≡ all_frames flow.old) }
 {
     match of {
-        Reference::Property(base, x) => match remove(store, w, &base, &x) {
-            Removed::Done(answer) => Ok(flow.give(Completion::Is(Value::Bool(answer)))),
-            Removed::Throw(fault) => throw(flow, alloc, w, codes, store, fault),
-        },
+        Reference::Property(base, x) => delete_named(flow, alloc, w, codes, store, &base, &x),
+        Reference::Element(cell, i) => {
+            let name = whole_text(alloc, i64::from(i))?;
+            let base = Value::Ref(cell);
+            delete_named(flow, alloc, w, codes, store, &base, &name)
+        }
         _ => Ok(flow.give(Completion::Is(Value::Bool(true)))),
+    }
+}
+
+// `delete` takes a property out of a value.
+fn delete_named(
+    flow: &mut Flow,
+    alloc: Global,
+    w: u32,
+    codes: &Vec<Code>,
+    store: &mut Store,
+    base: &Value,
+    name: &Text,
+) -> Result<(), Memory>
+    requires widget { w < 32 }
+    requires held { IsFine w store.old.cells base.now }
+    ensures plan { OnOk result (Plans (trees_of codes.now.items) w store.old store.new
+        (expressions.delete_at (meaning.Property (seen w store.old.cells base.now) name.now)) flow.new) }
+    ensures fine { OnOk result (FineLeft (trees_of codes.now.items) w store.new.cells flow.new) }
+    ensures near { OnOk result (left_free flow.new ≤ 1) }
+    ensures kept { Kept (trees_of codes.now.items) w store.old store.new }
+    ensures below { OnOk result (flow.new.below ≡ all_frames flow.old) }
+{
+    match remove(store, w, base, name) {
+        Removed::Done(answer) => Ok(flow.give(Completion::Is(Value::Bool(answer)))),
+        Removed::Throw(fault) => throw(flow, alloc, w, codes, store, fault),
     }
 }

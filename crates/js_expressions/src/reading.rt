@@ -1,5 +1,6 @@
 //! Reads and writes of variables and properties, and faults.
 ghost use Rattle.std.specs.Prelude.{◌≡◌, ℕ, ◌<◌, ◌≤◌, List, IfOk, OnOk};
+ghost use Rattle.std.specs.Fmt.{decimal};
 ghost use Rattle.store_cells.specs.Cells.{PlainCell};
 ghost use Rattle.widget_meaning.specs.Values as meaning;
 ghost use Rattle.widget_meaning.specs.Costs as costs;
@@ -15,11 +16,11 @@ ghost use Rattle.js_flow.specs.Fine.{FineLeft, FineReference, IsPlace};
 ghost use Rattle.js_flow.specs.Free.{left_free};
 ghost use Rattle.js_flow.specs.Left.{all_frames};
 
-use code_units::{Memory, Text};
+use code_units::{Memory, Text, whole_text};
 use js_flow::{Completion, Flow, Place, Reference};
-use js_image::{Fault, Made, Written, assign, get, make_fault, put, variable};
+use js_image::{Fault, Made, Written, assign, get, indexed_value, make_fault, put, variable};
 use js_names::Code;
-use object_store::{Store, Value};
+use object_store::{CellId, Store, Value};
 use std::alloc::Global;
 
 /// A fault is thrown.
@@ -124,6 +125,7 @@ pub(crate) fn referred(
     match of {
         Reference::Variable(x) => variable(store, place.scope, x),
         Reference::Property(base, x) => get(store, base, x),
+        Reference::Element(cell, i) => indexed_value(store, *cell, *i),
         Reference::Found(v) => v.share(),
     }
 }
@@ -135,6 +137,7 @@ pub(crate) fn shared(of: &Reference) -> Result<Reference, Memory>
     match of {
         Reference::Variable(x) => Ok(Reference::Variable(x.share()?)),
         Reference::Property(base, x) => Ok(Reference::Property(base.share()?, x.share()?)),
+        Reference::Element(cell, i) => Ok(Reference::Element(*cell, *i)),
         Reference::Found(value) => Ok(Reference::Found(value.share()?)),
     }
 }
@@ -178,8 +181,38 @@ pub(crate) fn write(
             x,
             (value, given),
         ),
+        Reference::Element(cell, i) => {
+            write_element(flow, alloc, w, codes, store, *cell, *i, (value, given))
+        }
         Reference::Found(_) => Ok(flow.give(Completion::Is(given))),
     }
+}
+
+// A write of the first value to the property of a cell under an index, after which the second is given.
+fn write_element(
+    flow: &mut Flow,
+    alloc: Global,
+    w: u32,
+    codes: &Vec<Code>,
+    store: &mut Store,
+    cell: CellId,
+    i: u32,
+    values: (Value, Value),
+) -> Result<(), Memory>
+    requires widget { w < 32 }
+    requires to { IsFine w store.old.cells (Value.Ref cell) }
+    requires values { IsFine w store.old.cells values.0 × IsFine w store.old.cells values.1 }
+    ensures plan { OnOk result (Plans (trees_of codes.now.items) w store.old store.new
+        (λ s. properties.put (seen w store.old.cells (Value.Ref cell)) (decimal i) (seen w store.old.cells values.0) s
+        (costs.give (seen w store.old.cells values.1))) flow.new) }
+    ensures fine { OnOk result (FineLeft (trees_of codes.now.items) w store.new.cells flow.new) }
+    ensures near { OnOk result (left_free flow.new ≤ 1) }
+    ensures kept { Kept (trees_of codes.now.items) w store.old store.new }
+    ensures below { OnOk result (flow.new.below ≡ all_frames flow.old) }
+{
+    let name = whole_text(alloc, i64::from(i))?;
+    let base = Value::Ref(cell);
+    write_property(flow, alloc, w, codes, store, &base, &name, values)
 }
 
 // A write of the first value to a property, after which the second is given.

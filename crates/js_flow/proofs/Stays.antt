@@ -1,6 +1,7 @@
 -- What frames have still to do stays the same as the store grows, and what they hold stays the widget's.
 use Rattle.std.proofs.Common.{◌≡◌, ℕ, ◌+◌, List, [], ◌∷◌, ◌++◌, length, refl, ap, ◌∙◌}
 use Rattle.std.specs.Prelude.{drop}
+use Rattle.std.specs.Fmt.{decimal}
 use Rattle.js_tree.specs.Lists.{stmt_list}
 use Rattle.js_tree.specs.Forest.{Forest, expr_at, stmt_at}
 use Rattle.store_cells.specs.declared.value.Value.{Value}
@@ -52,6 +53,7 @@ module _ (w : ℕ) (old new : List PlainCell) (g : Grows w old new) where
   pub reference_same : (x : Reference) → FineReference w old x → reference_of w new x ≡ reference_of w old x
   reference_same (reference.Variable x) h = refl
   reference_same (reference.Property v x) h = ap (λ u. meaning.Property u x) (seen_stays w old new g v h)
+  reference_same (reference.Element i n) h = ap (λ u. meaning.Property u (decimal n)) (seen_stays w old new g (value.Ref i) h.0)
   reference_same (reference.Found v) h = ap meaning.Found (seen_stays w old new g v h)
 
   pub completion_same : (o : Completion) → FineCompletion w old o → completion_of w new o ≡ completion_of w old o
@@ -74,6 +76,7 @@ module _ (w : ℕ) (old new : List PlainCell) (g : Grows w old new) where
   pub reference_fine : (x : Reference) → FineReference w old x → FineReference w new x
   reference_fine (reference.Variable x) h = tt
   reference_fine (reference.Property v x) h = fine_stays w old new g v h
+  reference_fine (reference.Element i n) h = (fine_stays w old new g (value.Ref i) h.0, h.1)
   reference_fine (reference.Found v) h = fine_stays w old new g v h
 
   pub completion_fine : (o : Completion) → FineCompletion w old o → FineCompletion w new o

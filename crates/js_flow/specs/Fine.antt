@@ -5,6 +5,7 @@ use Rattle.js_tree.specs.Forest.{Forest, IsExpr, IsStmt}
 use Rattle.js_tree.specs.declared.nodes.ExprId.{ExprId}
 use Rattle.js_tree.specs.declared.nodes.StmtId.{StmtId}
 use Rattle.store_cells.specs.Cells.{PlainCell}
+use Rattle.store_cells.specs.declared.value.Value.TheVariants as value
 use Rattle.js_image.specs.Held.{AreFine, IsFine, IsHeld, IsPlaceScope}
 use Rattle.js_flow.specs.declared.job.Place.{Place}
 use Rattle.js_flow.specs.declared.job.Block.{Block}
@@ -47,6 +48,7 @@ module _ (w : ℕ) (cells : List PlainCell) where
   abbrev pub FineReference : Reference → Type 0
   FineReference (reference.Variable x) = Unit {0}
   FineReference (reference.Property v x) = IsFine w cells v
+  FineReference (reference.Element i n) = IsFine w cells (value.Ref i) × (n < 1073741824)
   FineReference (reference.Found v) = IsFine w cells v
 
   abbrev pub FineCompletion : Completion → Type 0

@@ -1,9 +1,11 @@
 -- Places, references, completions and jobs as the meaning has them.
 use Rattle.std.specs.Prelude.{ℕ, suc, List, [], drop, unwrap_or, slice_get}
+use Rattle.std.specs.Fmt.{decimal}
 use Rattle.std.specs.Option.{option_map}
 use Rattle.js_tree.specs.Forest.{Forest, expr_at, stmt_at}
 use Rattle.js_tree.specs.Lists.{stmt_list}
 use Rattle.store_cells.specs.Cells.{PlainCell}
+use Rattle.store_cells.specs.declared.value.Value.TheVariants as value
 use Rattle.object_store.specs.Owned.{scope_number}
 use Rattle.widget_meaning.specs.Values as meaning
 use Rattle.widget_meaning.specs.Plan as plan
@@ -31,6 +33,7 @@ module _ (w : ℕ) (cells : List PlainCell) where
   abbrev pub reference_of : Reference → meaning.Reference
   reference_of (reference.Variable x) = meaning.Variable x
   reference_of (reference.Property v x) = meaning.Property (seen w cells v) x
+  reference_of (reference.Element i n) = meaning.Property (seen w cells (value.Ref i)) (decimal n)
   reference_of (reference.Found v) = meaning.Found (seen w cells v)
 
   -- how a form ends

@@ -50,6 +50,8 @@ pub struct Listed {
 pub enum Reference {
     Variable(Text),
     Property(Value, Text),
+    /// The property of a cell under the name of an index below 2^30, of which no text is made.
+    Element(CellId, u32),
     Found(Value),
 }
 

@@ -95,6 +95,20 @@ pub fn indexed_at(store: &Store, cell: CellId, i: u32) -> Option<&Value>
     store.get_index(cell, i)
 }
 
+/// The same for a second holder.
+pub fn indexed_value(store: &Store, cell: CellId, i: u32) -> Result<Value, Memory>
+    requires within { cell < length store.now.cells }
+    requires index { i < 1073741824 }
+    ensures found { IfOk result (λ v. (fs : List Forest) (r : Rest) (w : ℕ) → IsConfined fs w store.now
+        → IsFine w store.now.cells (Value.Ref cell)
+        → seen w store.now.cells v
+        ≡ properties.get (image fs r w store.now) (seen w store.now.cells (Value.Ref cell)) (decimal i)) }
+    ensures fine { IfOk result (λ v. (fs : List Forest) (w : ℕ) → IsConfined fs w store.now
+        → IsFine w store.now.cells (Value.Ref cell) → IsFine w store.now.cells v) }
+{
+    shared(indexed_at(store, cell, i))
+}
+
 // The first own property along the prototypes of a cell, of which there are at most 100.
 fn property_of(store: &Store, cell: CellId, name: &Text) -> Result<Value, Memory>
     requires { cell < length store.now.cells }

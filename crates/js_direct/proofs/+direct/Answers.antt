@@ -482,15 +482,15 @@ assigning::assign_written-write_value-requires-clause-ready t c =
     let fs = trees_of c.args.here.now.site.now.codes.now.items in
     let w = c.args.here.now.site.now.widget in
     let s = c.args.store.now in
-    value_ready fs w s c.eval_on.new.store 0 (λ t. Do (job_of fs w s.cells (job.Eval c.args.e c.args.here.now.at)) t Ret) c.args.run.now c.eval_on.new.run c.in_ok-other.other _ c.in_ok-other.ensures.comes c.in-Is.is c.eval_on.ensures.kept c.requires.ready
+    value_ready fs w s c.operand_on.new.store 0 (λ t. Do (job_of fs w s.cells (job.Eval c.args.e c.args.here.now.at)) t Ret) c.args.run.now c.operand_on.new.run c.in_ok-other.other _ c.in_ok-other.ensures.comes c.in-Is.is c.operand_on.ensures.kept c.requires.ready
 
 pub assigning::assign_written-write_value-requires-clause-to : goal.assigning::assign_written-write_value-requires-clause-to
 assigning::assign_written-write_value-requires-clause-to t c =
     let fs = trees_of c.args.here.now.site.now.codes.now.items in
     let w = c.args.here.now.site.now.widget in
     let s = c.args.store.now in (
-      reference_fine w s.cells c.eval_on.new.store.cells c.eval_on.ensures.kept.grows c.args.of.now c.requires.held.1,
-      place_fine fs w s.cells c.eval_on.new.store.cells c.eval_on.ensures.kept.grows c.args.here.now.at c.requires.held.0.0,
+      reference_fine w s.cells c.operand_on.new.store.cells c.operand_on.ensures.kept.grows c.args.of.now c.requires.held.1,
+      place_fine fs w s.cells c.operand_on.new.store.cells c.operand_on.ensures.kept.grows c.args.here.now.at c.requires.held.0.0,
     )
 
 pub assigning::assign_written-write_value-requires-clause-value : goal.assigning::assign_written-write_value-requires-clause-value
@@ -498,7 +498,7 @@ assigning::assign_written-write_value-requires-clause-value t c =
     let fs = trees_of c.args.here.now.site.now.codes.now.items in
     let w = c.args.here.now.site.now.widget in
     let s = c.args.store.now in
-    value_fine fs w s c.eval_on.new.store 0 (λ t. Do (job_of fs w s.cells (job.Eval c.args.e c.args.here.now.at)) t Ret) c.args.run.now c.eval_on.new.run c.in_ok-other.other c.eval_on.new.out c.in_ok-other.ensures.comes c.in-Is.is
+    value_fine fs w s c.operand_on.new.store 0 (λ t. Do (job_of fs w s.cells (job.Eval c.args.e c.args.here.now.at)) t Ret) c.args.run.now c.operand_on.new.run c.in_ok-other.other c.operand_on.new.out c.in_ok-other.ensures.comes c.in-Is.is
 
 pub assigning::assign_written-returns-in-Is-clause-comes : goal.assigning::assign_written-returns-in-Is-clause-comes
 assigning::assign_written-returns-in-Is-clause-comes t c =
@@ -506,8 +506,8 @@ assigning::assign_written-returns-in-Is-clause-comes t c =
     let w = c.args.here.now.site.now.widget in
     let s = c.args.store.now in
     IfOk-weaker c.write_value.result _ _
-    (λ how h. value_then fs w s c.eval_on.new.store c.write_value.new.store 0 1 1 (λ t. Do (job_of fs w s.cells (job.Eval c.args.e c.args.here.now.at)) t Ret) (form.Write c.args.of.now c.args.here.now.at) c.args.run.now c.eval_on.new.run c.write_value.new.run c.in_ok-other.other how c.eval_on.new.out (ended_as how c.write_value.new.out)
-    c.in_ok-other.ensures.comes c.in-Is.is c.eval_on.ensures.kept (c.requires.held.1, c.requires.held.0.0) h (omega arith))
+    (λ how h. value_then fs w s c.operand_on.new.store c.write_value.new.store 0 1 1 (λ t. Do (job_of fs w s.cells (job.Eval c.args.e c.args.here.now.at)) t Ret) (form.Write c.args.of.now c.args.here.now.at) c.args.run.now c.operand_on.new.run c.write_value.new.run c.in_ok-other.other how c.operand_on.new.out (ended_as how c.write_value.new.out)
+    c.in_ok-other.ensures.comes c.in-Is.is c.operand_on.ensures.kept (c.requires.held.1, c.requires.held.0.0) h (omega arith))
     c.write_value.ensures.comes
 
 pub assigning::assign_written-returns-in-Is-clause-kept : goal.assigning::assign_written-returns-in-Is-clause-kept
@@ -515,15 +515,15 @@ assigning::assign_written-returns-in-Is-clause-kept t c =
     let fs = trees_of c.args.here.now.site.now.codes.now.items in
     let w = c.args.here.now.site.now.widget in
     let s = c.args.store.now in
-    kept_then fs w s c.eval_on.new.store c.write_value.new.store c.eval_on.ensures.kept c.write_value.ensures.kept
+    kept_then fs w s c.operand_on.new.store c.write_value.new.store c.operand_on.ensures.kept c.write_value.ensures.kept
 
 pub assigning::assign_written-returns-in-Left-clause-comes : goal.assigning::assign_written-returns-in-Left-clause-comes
 assigning::assign_written-returns-in-Left-clause-comes t c =
     let fs = trees_of c.args.here.now.site.now.codes.now.items in
     let w = c.args.here.now.site.now.widget in
     let s = c.args.store.now in
-    frame_waits fs w c.wait_written.result s c.eval_on.new.store 0 1 (λ t. Do (job_of fs w s.cells (job.Eval c.args.e c.args.here.now.at)) t Ret) (frame.Form (form.Write c.args.of.now c.args.here.now.at)) c.args.run.now c.eval_on.new.run c.wait_written.new.run c.in_ok-other.other (ended_as c.in_ok-other.other c.eval_on.new.out) (λ h. ended_as h c.eval_on.new.out)
-    c.in_ok-other.ensures.comes c.in-Left.is c.eval_on.ensures.kept (c.requires.held.1, c.requires.held.0.0) (omega arith) c.wait_written.ensures.left c.wait_written.ensures.waits c.wait_written.ensures.next c.wait_written.ensures.units
+    frame_waits fs w c.wait_written.result s c.operand_on.new.store 0 1 (λ t. Do (job_of fs w s.cells (job.Eval c.args.e c.args.here.now.at)) t Ret) (frame.Form (form.Write c.args.of.now c.args.here.now.at)) c.args.run.now c.operand_on.new.run c.wait_written.new.run c.in_ok-other.other (ended_as c.in_ok-other.other c.operand_on.new.out) (λ h. ended_as h c.operand_on.new.out)
+    c.in_ok-other.ensures.comes c.in-Left.is c.operand_on.ensures.kept (c.requires.held.1, c.requires.held.0.0) (omega arith) c.wait_written.ensures.left c.wait_written.ensures.waits c.wait_written.ensures.next c.wait_written.ensures.units
 
 pub assigning::assign_written-returns-in_default : goal.assigning::assign_written-returns-in_default
 assigning::assign_written-returns-in_default t c =
@@ -531,8 +531,8 @@ assigning::assign_written-returns-in_default t c =
     let w = c.args.here.now.site.now.widget in
     let s = c.args.store.now in
     record {
-      comes = value_passes fs w s c.eval_on.new.store 0 1 (λ t. Do (job_of fs w s.cells (job.Eval c.args.e c.args.here.now.at)) t Ret) (form.Write c.args.of.now c.args.here.now.at) c.args.run.now c.eval_on.new.run c.in_ok-other.other c.eval_on.new.out c.in_ok-other.ensures.comes c.in_default.not-Is c.in_default.not-Left c.eval_on.ensures.kept (c.requires.held.1, c.requires.held.0.0) (omega arith);
-      kept = c.eval_on.ensures.kept;
+      comes = value_passes fs w s c.operand_on.new.store 0 1 (λ t. Do (job_of fs w s.cells (job.Eval c.args.e c.args.here.now.at)) t Ret) (form.Write c.args.of.now c.args.here.now.at) c.args.run.now c.operand_on.new.run c.in_ok-other.other c.operand_on.new.out c.in_ok-other.ensures.comes c.in_default.not-Is c.in_default.not-Left c.operand_on.ensures.kept (c.requires.held.1, c.requires.held.0.0) (omega arith);
+      kept = c.operand_on.ensures.kept;
     }
 
 pub assigning::assign_computed-assign_with-requires : goal.assigning::assign_computed-assign_with-requires
@@ -5316,26 +5316,26 @@ targets::dot_target-refer_on-requires-clause-ready t c =
     let fs = trees_of c.args.here.now.site.now.codes.now.items in
     let w = c.args.here.now.site.now.widget in
     let s = c.args.store.now in
-    value_ready fs w s c.eval_on.new.store 0 (λ t. Do (job_of fs w s.cells (job.Eval c.args.e c.args.here.now.at)) t Ret) c.args.run.now c.eval_on.new.run c.in_ok-other.other _ c.in_ok-other.ensures.comes c.in-Is.is c.eval_on.ensures.kept c.requires.ready
+    value_ready fs w s c.operand_on.new.store 0 (λ t. Do (job_of fs w s.cells (job.Eval c.args.e c.args.here.now.at)) t Ret) c.args.run.now c.operand_on.new.run c.in_ok-other.other _ c.in_ok-other.ensures.comes c.in-Is.is c.operand_on.ensures.kept c.requires.ready
 
 pub targets::dot_target-refer_on-requires-clause-held : goal.targets::dot_target-refer_on-requires-clause-held
 targets::dot_target-refer_on-requires-clause-held t c =
     let fs = trees_of c.args.here.now.site.now.codes.now.items in
     let w = c.args.here.now.site.now.widget in
     let s = c.args.store.now in
-    value_fine fs w s c.eval_on.new.store 0 (λ t. Do (job_of fs w s.cells (job.Eval c.args.e c.args.here.now.at)) t Ret) c.args.run.now c.eval_on.new.run c.in_ok-other.other c.eval_on.new.out c.in_ok-other.ensures.comes c.in-Is.is
+    value_fine fs w s c.operand_on.new.store 0 (λ t. Do (job_of fs w s.cells (job.Eval c.args.e c.args.here.now.at)) t Ret) c.args.run.now c.operand_on.new.run c.in_ok-other.other c.operand_on.new.out c.in_ok-other.ensures.comes c.in-Is.is
 
 pub targets::dot_target-returns-in_ok-share-in-Is-clause-comes : goal.targets::dot_target-returns-in_ok-share-in-Is-clause-comes
 targets::dot_target-returns-in_ok-share-in-Is-clause-comes t c =
     let fs = trees_of c.args.here.now.site.now.codes.now.items in
     let w = c.args.here.now.site.now.widget in
     let s = c.args.store.now in
-    let t = c.eval_on.new.store in
-    let v = seen w t.cells c.eval_on.new.out in
+    let t = c.operand_on.new.store in
+    let v = seen w t.cells c.operand_on.new.out in
     IfOk-weaker c.refer_on.result _ _
-    (λ how h. value_then fs w s t c.refer_on.new.store 0 1 31 (λ t. Do (job_of fs w s.cells (job.Eval c.args.e c.args.here.now.at)) t Ret) (form.TargetDot c.args.name.now) c.args.run.now c.eval_on.new.run c.refer_on.new.run c.in_ok-other.other how c.eval_on.new.out (target_as how c.refer_on.new.of c.refer_on.new.out)
-    c.in_ok-other.ensures.comes c.in-Is.is c.eval_on.ensures.kept tt
-    (instead fs w t c.refer_on.new.store 1 1 (refer v c.in_ok-share-in-Is.field-0) (refer v c.args.name.now) c.eval_on.new.run c.refer_on.new.run how (target_as how c.refer_on.new.of c.refer_on.new.out) h
+    (λ how h. value_then fs w s t c.refer_on.new.store 0 1 31 (λ t. Do (job_of fs w s.cells (job.Eval c.args.e c.args.here.now.at)) t Ret) (form.TargetDot c.args.name.now) c.args.run.now c.operand_on.new.run c.refer_on.new.run c.in_ok-other.other how c.operand_on.new.out (target_as how c.refer_on.new.of c.refer_on.new.out)
+    c.in_ok-other.ensures.comes c.in-Is.is c.operand_on.ensures.kept tt
+    (instead fs w t c.refer_on.new.store 1 1 (refer v c.in_ok-share-in-Is.field-0) (refer v c.args.name.now) c.operand_on.new.run c.refer_on.new.run how (target_as how c.refer_on.new.of c.refer_on.new.out) h
     (λ r. ap (λ (x : List ℕ). refer v x (image fs r w t)) (sym c.in_ok-share-in-Is.ensures)) (omega arith)) (omega arith))
     c.refer_on.ensures.comes
 
@@ -5344,14 +5344,14 @@ targets::dot_target-returns-in_ok-share-in-Is-clause-kept t c =
     let fs = trees_of c.args.here.now.site.now.codes.now.items in
     let w = c.args.here.now.site.now.widget in
     let s = c.args.store.now in
-    kept_then fs w s c.eval_on.new.store c.refer_on.new.store c.eval_on.ensures.kept c.refer_on.ensures.kept
+    kept_then fs w s c.operand_on.new.store c.refer_on.new.store c.operand_on.ensures.kept c.refer_on.ensures.kept
 
 pub targets::dot_target-returns-in_default-clause-comes : goal.targets::dot_target-returns-in_default-clause-comes
 targets::dot_target-returns-in_default-clause-comes t c =
     let fs = trees_of c.args.here.now.site.now.codes.now.items in
     let w = c.args.here.now.site.now.widget in
     let s = c.args.store.now in
-    hand_target fs w c.hand_dot.result s c.eval_on.new.store 0 31 (λ t. Do (job_of fs w s.cells (job.Eval c.args.e c.args.here.now.at)) t Ret) (form.TargetDot c.args.name.now) c.args.run.now c.eval_on.new.run c.hand_dot.new.run c.in_ok-other.other c.args.of.now c.eval_on.new.out c.in_ok-other.ensures.comes c.in_default.not-Is c.eval_on.ensures.kept tt (omega arith) c.hand_dot.ensures
+    hand_target fs w c.hand_dot.result s c.operand_on.new.store 0 31 (λ t. Do (job_of fs w s.cells (job.Eval c.args.e c.args.here.now.at)) t Ret) (form.TargetDot c.args.name.now) c.args.run.now c.operand_on.new.run c.hand_dot.new.run c.in_ok-other.other c.args.of.now c.operand_on.new.out c.in_ok-other.ensures.comes c.in_default.not-Is c.operand_on.ensures.kept tt (omega arith) c.hand_dot.ensures
 
 pub targets::sub_target-index_target-requires : goal.targets::sub_target-index_target-requires
 targets::sub_target-index_target-requires t c = (
@@ -5361,15 +5361,15 @@ targets::sub_target-index_target-requires t c = (
         let fs = trees_of c.args.here.now.site.now.codes.now.items in
         let w = c.args.here.now.site.now.widget in
         let s = c.args.store.now in
-        value_ready fs w s c.eval_on.new.store 0 (λ t. Do (job_of fs w s.cells (job.Eval c.args.parts.0 c.args.here.now.at)) t Ret) c.args.run.now c.eval_on.new.run c.in_ok-other.other _ c.in_ok-other.ensures.comes c.in-Is.is c.eval_on.ensures.kept c.requires.ready
+        value_ready fs w s c.operand_on.new.store 0 (λ t. Do (job_of fs w s.cells (job.Eval c.args.parts.0 c.args.here.now.at)) t Ret) c.args.run.now c.operand_on.new.run c.in_ok-other.other _ c.in_ok-other.ensures.comes c.in-Is.is c.operand_on.ensures.kept c.requires.ready
         ),
     (
       (
           let fs = trees_of c.args.here.now.site.now.codes.now.items in
           let w = c.args.here.now.site.now.widget in
           let s = c.args.store.now in (
-            expr_stays fs w s.cells c.eval_on.new.store.cells c.eval_on.ensures.kept.grows c.args.parts.1 c.args.here.now.at c.requires.held.1,
-            value_fine fs w s c.eval_on.new.store 0 (λ t. Do (job_of fs w s.cells (job.Eval c.args.parts.0 c.args.here.now.at)) t Ret) c.args.run.now c.eval_on.new.run c.in_ok-other.other c.eval_on.new.out c.in_ok-other.ensures.comes c.in-Is.is,
+            expr_stays fs w s.cells c.operand_on.new.store.cells c.operand_on.ensures.kept.grows c.args.parts.1 c.args.here.now.at c.requires.held.1,
+            value_fine fs w s c.operand_on.new.store 0 (λ t. Do (job_of fs w s.cells (job.Eval c.args.parts.0 c.args.here.now.at)) t Ret) c.args.run.now c.operand_on.new.run c.in_ok-other.other c.operand_on.new.out c.in_ok-other.ensures.comes c.in-Is.is,
           )
           ),
       c.requires.tree,
@@ -5383,8 +5383,8 @@ targets::sub_target-returns-in-Is-clause-comes t c =
     let w = c.args.here.now.site.now.widget in
     let s = c.args.store.now in
     IfOk-weaker c.index_target.result _ _
-    (λ how h. value_then fs w s c.eval_on.new.store c.index_target.new.store 0 1 31 (λ t. Do (job_of fs w s.cells (job.Eval c.args.parts.0 c.args.here.now.at)) t Ret) (form.TargetSubBase c.args.parts.1 c.args.here.now.at) c.args.run.now c.eval_on.new.run c.index_target.new.run c.in_ok-other.other how c.eval_on.new.out (target_as how c.index_target.new.of c.index_target.new.out)
-    c.in_ok-other.ensures.comes c.in-Is.is c.eval_on.ensures.kept c.requires.held.1 h (omega arith))
+    (λ how h. value_then fs w s c.operand_on.new.store c.index_target.new.store 0 1 31 (λ t. Do (job_of fs w s.cells (job.Eval c.args.parts.0 c.args.here.now.at)) t Ret) (form.TargetSubBase c.args.parts.1 c.args.here.now.at) c.args.run.now c.operand_on.new.run c.index_target.new.run c.in_ok-other.other how c.operand_on.new.out (target_as how c.index_target.new.of c.index_target.new.out)
+    c.in_ok-other.ensures.comes c.in-Is.is c.operand_on.ensures.kept c.requires.held.1 h (omega arith))
     c.index_target.ensures.comes
 
 pub targets::sub_target-returns-in-Is-clause-kept : goal.targets::sub_target-returns-in-Is-clause-kept
@@ -5392,14 +5392,14 @@ targets::sub_target-returns-in-Is-clause-kept t c =
     let fs = trees_of c.args.here.now.site.now.codes.now.items in
     let w = c.args.here.now.site.now.widget in
     let s = c.args.store.now in
-    kept_then fs w s c.eval_on.new.store c.index_target.new.store c.eval_on.ensures.kept c.index_target.ensures.kept
+    kept_then fs w s c.operand_on.new.store c.index_target.new.store c.operand_on.ensures.kept c.index_target.ensures.kept
 
 pub targets::sub_target-returns-in_default-clause-comes : goal.targets::sub_target-returns-in_default-clause-comes
 targets::sub_target-returns-in_default-clause-comes t c =
     let fs = trees_of c.args.here.now.site.now.codes.now.items in
     let w = c.args.here.now.site.now.widget in
     let s = c.args.store.now in
-    hand_target fs w c.hand_base.result s c.eval_on.new.store 0 31 (λ t. Do (job_of fs w s.cells (job.Eval c.args.parts.0 c.args.here.now.at)) t Ret) (form.TargetSubBase c.args.parts.1 c.args.here.now.at) c.args.run.now c.eval_on.new.run c.hand_base.new.run c.in_ok-other.other c.args.of.now c.eval_on.new.out c.in_ok-other.ensures.comes c.in_default.not-Is c.eval_on.ensures.kept c.requires.held.1 (omega arith) c.hand_base.ensures
+    hand_target fs w c.hand_base.result s c.operand_on.new.store 0 31 (λ t. Do (job_of fs w s.cells (job.Eval c.args.parts.0 c.args.here.now.at)) t Ret) (form.TargetSubBase c.args.parts.1 c.args.here.now.at) c.args.run.now c.operand_on.new.run c.hand_base.new.run c.in_ok-other.other c.args.of.now c.operand_on.new.out c.in_ok-other.ensures.comes c.in_default.not-Is c.operand_on.ensures.kept c.requires.held.1 (omega arith) c.hand_base.ensures
 
 pub targets::index_target-index_of_target-requires : goal.targets::index_target-index_of_target-requires
 targets::index_target-index_of_target-requires t c = (
@@ -5434,14 +5434,14 @@ targets::index_of_target-refer_by-requires-clause-ready t c =
     let fs = trees_of c.args.here.now.site.now.codes.now.items in
     let w = c.args.here.now.site.now.widget in
     let s = c.args.store.now in
-    value_ready fs w s c.eval_on.new.store 0 (λ t. Do (job_of fs w s.cells (job.Eval c.args.index c.args.here.now.at)) t Ret) c.args.run.now c.eval_on.new.run c.in_ok-other.other _ c.in_ok-other.ensures.comes c.in-Is.is c.eval_on.ensures.kept c.requires.ready
+    value_ready fs w s c.operand_on.new.store 0 (λ t. Do (job_of fs w s.cells (job.Eval c.args.index c.args.here.now.at)) t Ret) c.args.run.now c.operand_on.new.run c.in_ok-other.other _ c.in_ok-other.ensures.comes c.in-Is.is c.operand_on.ensures.kept c.requires.ready
 
 pub targets::index_of_target-refer_by-requires-clause-held : goal.targets::index_of_target-refer_by-requires-clause-held
 targets::index_of_target-refer_by-requires-clause-held t c =
     let fs = trees_of c.args.here.now.site.now.codes.now.items in
     let w = c.args.here.now.site.now.widget in
     let s = c.args.store.now in
-    fine_stays w s.cells c.eval_on.new.store.cells c.eval_on.ensures.kept.grows c.args.base.now c.requires.held.1
+    fine_stays w s.cells c.operand_on.new.store.cells c.operand_on.ensures.kept.grows c.args.base.now c.requires.held.1
 
 pub targets::index_of_target-returns-in-Is-clause-comes : goal.targets::index_of_target-returns-in-Is-clause-comes
 targets::index_of_target-returns-in-Is-clause-comes t c =
@@ -5449,8 +5449,8 @@ targets::index_of_target-returns-in-Is-clause-comes t c =
     let w = c.args.here.now.site.now.widget in
     let s = c.args.store.now in
     IfOk-weaker c.refer_by.result _ _
-    (λ how h. value_then fs w s c.eval_on.new.store c.refer_by.new.store 0 1 1 (λ t. Do (job_of fs w s.cells (job.Eval c.args.index c.args.here.now.at)) t Ret) (form.TargetSub c.args.base.now) c.args.run.now c.eval_on.new.run c.refer_by.new.run c.in_ok-other.other how c.eval_on.new.out (target_as how c.refer_by.new.of c.refer_by.new.out)
-    c.in_ok-other.ensures.comes c.in-Is.is c.eval_on.ensures.kept c.requires.held.1 h (omega arith))
+    (λ how h. value_then fs w s c.operand_on.new.store c.refer_by.new.store 0 1 1 (λ t. Do (job_of fs w s.cells (job.Eval c.args.index c.args.here.now.at)) t Ret) (form.TargetSub c.args.base.now) c.args.run.now c.operand_on.new.run c.refer_by.new.run c.in_ok-other.other how c.operand_on.new.out (target_as how c.refer_by.new.of c.refer_by.new.out)
+    c.in_ok-other.ensures.comes c.in-Is.is c.operand_on.ensures.kept c.requires.held.1 h (omega arith))
     c.refer_by.ensures.comes
 
 pub targets::index_of_target-returns-in-Is-clause-kept : goal.targets::index_of_target-returns-in-Is-clause-kept
@@ -5458,16 +5458,16 @@ targets::index_of_target-returns-in-Is-clause-kept t c =
     let fs = trees_of c.args.here.now.site.now.codes.now.items in
     let w = c.args.here.now.site.now.widget in
     let s = c.args.store.now in
-    kept_then fs w s c.eval_on.new.store c.refer_by.new.store c.eval_on.ensures.kept c.refer_by.ensures.kept
+    kept_then fs w s c.operand_on.new.store c.refer_by.new.store c.operand_on.ensures.kept c.refer_by.ensures.kept
 
 pub targets::index_of_target-returns-in-Left-clause-comes : goal.targets::index_of_target-returns-in-Left-clause-comes
 targets::index_of_target-returns-in-Left-clause-comes t c =
     let fs = trees_of c.args.here.now.site.now.codes.now.items in
     let w = c.args.here.now.site.now.widget in
     let s = c.args.store.now in
-    frame_waits fs w c.wait.result s c.eval_on.new.store 0 1 (λ t. Do (job_of fs w s.cells (job.Eval c.args.index c.args.here.now.at)) t Ret) (frame.Form (form.TargetSub c.args.base.now)) c.args.run.now c.eval_on.new.run c.wait.new.run c.in_ok-other.other (ended_as c.in_ok-other.other c.eval_on.new.out) (λ h. target_as h c.args.of.now c.eval_on.new.out)
-    c.in_ok-other.ensures.comes c.in-Left.is c.eval_on.ensures.kept c.requires.held.1 (omega arith) c.wait.ensures.left
-    (subst (λ (v : Value2). IfOk c.wait.result (λ h. c.wait.new.run.waits.items ≡ c.eval_on.new.run.waits.items ++ frame.Form (form.TargetSub v) ∷ [])) c.take_value.ensures.taken c.wait.ensures.waits) c.wait.ensures.next c.wait.ensures.units
+    frame_waits fs w c.wait.result s c.operand_on.new.store 0 1 (λ t. Do (job_of fs w s.cells (job.Eval c.args.index c.args.here.now.at)) t Ret) (frame.Form (form.TargetSub c.args.base.now)) c.args.run.now c.operand_on.new.run c.wait.new.run c.in_ok-other.other (ended_as c.in_ok-other.other c.operand_on.new.out) (λ h. target_as h c.args.of.now c.operand_on.new.out)
+    c.in_ok-other.ensures.comes c.in-Left.is c.operand_on.ensures.kept c.requires.held.1 (omega arith) c.wait.ensures.left
+    (subst (λ (v : Value2). IfOk c.wait.result (λ h. c.wait.new.run.waits.items ≡ c.operand_on.new.run.waits.items ++ frame.Form (form.TargetSub v) ∷ [])) c.take_value.ensures.taken c.wait.ensures.waits) c.wait.ensures.next c.wait.ensures.units
 
 pub targets::index_of_target-returns-in_default : goal.targets::index_of_target-returns-in_default
 targets::index_of_target-returns-in_default t c =
@@ -5475,9 +5475,9 @@ targets::index_of_target-returns-in_default t c =
     let w = c.args.here.now.site.now.widget in
     let s = c.args.store.now in
     record {
-      comes = ends_target fs w s c.eval_on.new.store 1 (λ t. and_then (Do (job_of fs w s.cells (job.Eval c.args.index c.args.here.now.at)) t Ret) (form_taken fs w s.cells (form.TargetSub c.args.base.now))) c.args.run.now c.eval_on.new.run c.in_ok-other.other c.args.of.now c.eval_on.new.out
-          (value_passes fs w s c.eval_on.new.store 0 1 (λ t. Do (job_of fs w s.cells (job.Eval c.args.index c.args.here.now.at)) t Ret) (form.TargetSub c.args.base.now) c.args.run.now c.eval_on.new.run c.in_ok-other.other c.eval_on.new.out c.in_ok-other.ensures.comes c.in_default.not-Is c.in_default.not-Left c.eval_on.ensures.kept c.requires.held.1 (omega arith)) c.in_default.not-Is;
-      kept = c.eval_on.ensures.kept;
+      comes = ends_target fs w s c.operand_on.new.store 1 (λ t. and_then (Do (job_of fs w s.cells (job.Eval c.args.index c.args.here.now.at)) t Ret) (form_taken fs w s.cells (form.TargetSub c.args.base.now))) c.args.run.now c.operand_on.new.run c.in_ok-other.other c.args.of.now c.operand_on.new.out
+          (value_passes fs w s c.operand_on.new.store 0 1 (λ t. Do (job_of fs w s.cells (job.Eval c.args.index c.args.here.now.at)) t Ret) (form.TargetSub c.args.base.now) c.args.run.now c.operand_on.new.run c.in_ok-other.other c.operand_on.new.out c.in_ok-other.ensures.comes c.in_default.not-Is c.in_default.not-Left c.operand_on.ensures.kept c.requires.held.1 (omega arith)) c.in_default.not-Is;
+      kept = c.operand_on.ensures.kept;
     }
 
 pub targets::found_target-returns-in-Is-clause-comes : goal.targets::found_target-returns-in-Is-clause-comes

@@ -76,7 +76,7 @@ abbrev pub decreases-assigning::assign_value : goal.decreases-assigning::assign_
 decreases-assigning::assign_value l = 16 * l.deep + 3
 
 abbrev pub decreases-assigning::assign_written : goal.decreases-assigning::assign_written
-decreases-assigning::assign_written l = 16 * l.deep + 1
+decreases-assigning::assign_written l = 16 * l.deep + 2
 
 abbrev pub decreases-assigning::assign_computed : goal.decreases-assigning::assign_computed
 decreases-assigning::assign_computed l = 16 * l.deep + 2
@@ -428,16 +428,16 @@ abbrev pub decreases-targets::target_of : goal.decreases-targets::target_of
 decreases-targets::target_of l = 16 * l.deep + 15
 
 abbrev pub decreases-targets::dot_target : goal.decreases-targets::dot_target
-decreases-targets::dot_target l = 16 * l.deep + 1
+decreases-targets::dot_target l = 16 * l.deep + 2
 
 abbrev pub decreases-targets::sub_target : goal.decreases-targets::sub_target
-decreases-targets::sub_target l = 16 * l.deep + 3
+decreases-targets::sub_target l = 16 * l.deep + 4
 
 abbrev pub decreases-targets::index_target : goal.decreases-targets::index_target
-decreases-targets::index_target l = 16 * l.deep + 2
+decreases-targets::index_target l = 16 * l.deep + 3
 
 abbrev pub decreases-targets::index_of_target : goal.decreases-targets::index_of_target
-decreases-targets::index_of_target l = 16 * l.deep + 1
+decreases-targets::index_of_target l = 16 * l.deep + 2
 
 abbrev pub decreases-targets::found_target : goal.decreases-targets::found_target
 decreases-targets::found_target l = 16 * l.deep + 14

@@ -1,4 +1,4 @@
-use Rattle.std.proofs.Common.{sym, ap, ◌∙◌, arith}
+use Rattle.std.proofs.Common.{sym, ap, subst, ◌∙◌, arith}
 use Rattle.std.proofs.lemmas.Result.{IfOk-weaker}
 use Rattle.js_names.specs.Code.{trees_of}
 use Rattle.widget_meaning.specs.Values as meaning
@@ -7,6 +7,8 @@ use Rattle.widget_meaning.specs.Costs.{give}
 use Rattle.widget_meaning.specs.Expressions as expressions
 use Rattle.js_image.specs.Image.{image, seen}
 use Rattle.js_image.proofs.Grown.{fine_stays, seen_stays}
+use Rattle.js_flow.specs.declared.job.Reference.{Reference}
+use Rattle.js_flow.specs.Fine.{FineReference}
 use Rattle.js_flow.specs.Views.{place_of, reference_of}
 use Rattle.js_direct.specs.Comes.{ended_as}
 use Rattle.js_direct.proofs.FormFrames.{gives_value, instead}
@@ -42,6 +44,22 @@ returns-in-Property-clause-comes c =
     (λ how h. instead fs w s c.put_on.new.store 1 1 _ (λ x. expressions.write (reference_of w s.cells c.args.of.now) (place_of w s.cells c.args.here.now.at) (seen w s.cells c.args.value) x (give (seen w s.cells c.args.out.now))) c.args.run.now c.put_on.new.run how (ended_as how c.put_on.new.out) h
     (λ r. ap (λ q. expressions.write (reference_of w s.cells q) (place_of w s.cells c.args.here.now.at) (seen w s.cells c.args.value) (image fs r w s) (give (seen w s.cells c.args.out.now))) c.in-Property.is) (omega arith))
     c.put_on.ensures.comes
+
+pub returns-in-Element-clause-comes : goal.returns-in-Element-clause-comes
+returns-in-Element-clause-comes c =
+    let fs = trees_of c.args.here.now.site.now.codes.now.items in
+    let w = c.args.here.now.site.now.widget in
+    let s = c.args.store.now in
+    IfOk-weaker c.put_at_on.result _ _
+    (λ how h. instead fs w s c.put_at_on.new.store 1 1 _ (λ x. expressions.write (reference_of w s.cells c.args.of.now) (place_of w s.cells c.args.here.now.at) (seen w s.cells c.args.value) x (give (seen w s.cells c.args.out.now))) c.args.run.now c.put_at_on.new.run how (ended_as how c.put_at_on.new.out) h
+    (λ r. ap (λ q. expressions.write (reference_of w s.cells q) (place_of w s.cells c.args.here.now.at) (seen w s.cells c.args.value) (image fs r w s) (give (seen w s.cells c.args.out.now))) c.in-Element.is) (omega arith))
+    c.put_at_on.ensures.comes
+
+pub put_at_on-requires-clause-to : goal.put_at_on-requires-clause-to
+put_at_on-requires-clause-to c =
+    let w = c.args.here.now.site.now.widget in
+    let s = c.args.store.now in
+    subst (λ (q : Reference). FineReference w s.cells q) c.in-Element.is c.requires.to.0
 
 pub returns-in-Found-clause-comes : goal.returns-in-Found-clause-comes
 returns-in-Found-clause-comes c =
