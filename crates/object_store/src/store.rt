@@ -23,7 +23,7 @@ use indexmap::IndexMap;
 use js_tree::FunId;
 use keyed_names::{Keys, NumberKeys};
 use permitted_table::{HostEntry, NativeId};
-use property_names::{PropertyNames, RULED};
+use property_names::PropertyNames;
 use std::alloc::Global;
 use std::marker::Model;
 use store_cells::cell::{Cell, Maker};
@@ -552,7 +552,7 @@ impl Store {
     #[inline(always)]
     pub fn get_index(&self, cell: CellId, i: u32) -> Option<&Value>
         requires at { cell < length self.now.cells }
-        requires index { i < RULED }
+        requires index { i < 1073741824 }
         ensures { option_copied result ≡ first_own (decimal i) (readable self.now.cells cell) }
     {
         let from = self.read_start(cell)?;
@@ -600,7 +600,7 @@ impl Store {
     /// Writes under the name of an index below 2^30, as `put` under that name, of which no text is made.
     pub fn put_index(&mut self, cell: CellId, i: u32, value: Value) -> Result<(), StoreFault>
         requires at { cell < length self.old.cells }
-        requires index { i < RULED }
+        requires index { i < 1073741824 }
         requires value { IsRefWithin (length self.old.cells) value }
         ensures ok { OnOk result (IsPut self.old self.new cell (decimal i) value) }
         ensures err { IfErr result (λ e. Refuses e (put_refusal self.old cell (decimal i) value)) }
@@ -620,7 +620,7 @@ impl Store {
     // `put_index`, without what widgets see of it.
     fn put_index_in(&mut self, cell: CellId, i: u32, value: Value) -> Result<(), StoreFault>
         requires at { cell < length self.old.cells }
-        requires index { i < RULED }
+        requires index { i < 1073741824 }
         requires value { IsRefWithin (length self.old.cells) value }
         ensures ok { OnOk result (IsPut self.old self.new cell (decimal i) value) }
         ensures err { IfErr result (λ e. Refuses e (put_refusal self.old cell (decimal i) value)) }
@@ -687,7 +687,7 @@ impl Store {
     /// Writes under the name of an index below 2^30 whose slot was paid before, as `put_paid` under that name.
     pub fn put_index_paid(&mut self, cell: CellId, i: u32, value: Value) -> Result<(), StoreFault>
         requires at { cell < length self.old.cells }
-        requires index { i < RULED }
+        requires index { i < 1073741824 }
         requires value { IsRefWithin (length self.old.cells) value }
         ensures ok { OnOk result (IsPutPaid self.old self.new cell (decimal i) value) }
         ensures err { IfErr result (λ e. Refuses e (paid_refusal self.old cell (decimal i) value)) }
@@ -707,7 +707,7 @@ impl Store {
     // `put_index_paid`, without what widgets see of it.
     fn put_index_paid_in(&mut self, cell: CellId, i: u32, value: Value) -> Result<(), StoreFault>
         requires at { cell < length self.old.cells }
-        requires index { i < RULED }
+        requires index { i < 1073741824 }
         requires value { IsRefWithin (length self.old.cells) value }
         ensures ok { OnOk result (IsPutPaid self.old self.new cell (decimal i) value) }
         ensures err { IfErr result (λ e. Refuses e (paid_refusal self.old cell (decimal i) value)) }
@@ -1243,7 +1243,7 @@ impl Store {
     #[inline(always)]
     fn index_along(&self, cell: CellId, i: u32) -> Option<&Value>
         requires at { cell < length self.now.cells }
-        requires index { i < RULED }
+        requires index { i < 1073741824 }
         ensures { option_copied result ≡ value_along self.now.cells cell (decimal i) }
     {
         table::found(&self.cells, cell, self.names.of_index(i))
