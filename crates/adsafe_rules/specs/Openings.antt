@@ -3,6 +3,7 @@ use Rattle.std.specs.Prelude.{◌≡◌, ℕ, not, List, [], ◌∷◌, slice_in
 use Rattle.first_breach.specs.Breaches.{Nothing, Either, One, If, Each}
 use Rattle.js_tree.specs.Parts.{Spot}
 use Rattle.adsafe_rules.specs.declared.scope.Scope.{Scope}
+use Rattle.node_rules.specs.declared.rule_numbers.TheConstants.{A02}
 use Rattle.node_rules.specs.Names.{Named}
 use Rattle.adsafe_rules.specs.Program.{is_opening_name, is_opening, opening_names, spot_place}
 use Rattle.js_tree.specs.declared.nodes.ExprId.{ExprId}
@@ -18,18 +19,18 @@ AreListed (arguments.More a b) ids = ids ≡ a ∷ b ∷ slice_index_or ids 2 a 
 
 -- A02 as sets of breaches: of a name that is handed over
 abbrev pub NameRow : Scope → Named → ℕ → ℕ → Type 0
-NameRow scope x = If (not (is_opening_name scope x.text)) (One 2 x.at)
+NameRow scope x = If (not (is_opening_name scope x.text)) (One A02 x.at)
 
 -- of the first statement: it is not the call, or hands over a wrong name
 abbrev pub OpeningRows : Scope → Spot → ℕ → ℕ → Type 0
-OpeningRows scope s = Either (If (not (is_opening scope s)) (One 2 (spot_place s))) (If (is_opening scope s) (Each (NameRow scope) (opening_names s)))
+OpeningRows scope s = Either (If (not (is_opening scope s)) (One A02 (spot_place s))) (If (is_opening scope s) (Each (NameRow scope) (opening_names s)))
 
 -- of what stands behind it
 abbrev pub SecondRow : List Spot → ℕ → ℕ → Type 0
 SecondRow [] = Nothing
-SecondRow (t ∷ rest) = One 2 (spot_place t)
+SecondRow (t ∷ rest) = One A02 (spot_place t)
 
 -- of a text
 abbrev pub ProgramRows : Scope → List Spot → ℕ → ℕ → Type 0
-ProgramRows scope [] = One 2 0
+ProgramRows scope [] = One A02 0
 ProgramRows scope (s ∷ rest) = Either (OpeningRows scope s) (SecondRow rest)

@@ -8,6 +8,7 @@ use Rattle.first_breach.specs.Breaches as breaches
 use Rattle.adsafe_rules.specs.declared.scope.Scope.{Scope}
 use Rattle.adsafe_rules.specs.declared.scope.Scope.TheVariants as scope
 use Rattle.node_rules.specs.Words.{is_library_name}
+use Rattle.node_rules.specs.declared.rule_numbers.TheConstants as number
 use Rattle.node_rules.specs.Names.{Named, literal}
 use Rattle.node_rules.specs.Forms.{is_name, is_string}
 use Rattle.adsafe_rules.specs.Rows.{AnyFound}
@@ -120,7 +121,7 @@ tops scope (s ∷ rest) = (if is_opening scope s then opening_functions s else s
 
 -- the text, at its position, breaks the rule at the place
 pub data Breaks (program : Stmts) (scope : Scope) : ℕ → ℕ → Type 0 where
-  A02 : {place : ℕ} → Misopened scope (stmts_spots program) place → Breaks program scope 2 place
+  A02 : {place : ℕ} → Misopened scope (stmts_spots program) place → Breaks program scope number.A02 place
   within : {rule place : ℕ} → AnyFound [] (tops scope (stmts_spots program)) rule place → Breaks program scope rule place
 
 -- its first broken rule: the least place, and there the least number

@@ -22,6 +22,7 @@ use first_breach::{Breach, offer};
 use js_tree::{ExprId, FunId, Part, StmtId, Tree};
 use node_rules::enclosing::Enclosing;
 use node_rules::pushes::{Work, push_stmts};
+use node_rules::rule_numbers::A02;
 use node_rules::shapes::literal;
 use std::alloc::Global;
 
@@ -34,7 +35,7 @@ fn name_rule(tree: &Tree, scope: &Scope, id: ExprId, best: Option<Breach>) -> Op
     match literal(tree, id) {
         Some(text) => {
             let wrong = !is_opening_name(scope, text);
-            offer(best, wrong, 2, tree.expr_at(id))
+            offer(best, wrong, A02, tree.expr_at(id))
         }
         None => best,
     }
@@ -61,7 +62,7 @@ fn opening_rule(tree: &Tree, scope: &Scope, id: StmtId, best: Option<Breach>) ->
     if is_opening(tree, scope, id) {
         names_rule(tree, scope, id, best)
     } else {
-        offer(best, true, 2, tree.stmt_at(id))
+        offer(best, true, A02, tree.stmt_at(id))
     }
 }
 
@@ -73,7 +74,7 @@ fn second_rule(tree: &Tree, list: &[StmtId], best: Option<Breach>) -> Option<Bre
     if list.len() < 2 {
         return best;
     }
-    offer(best, true, 2, tree.stmt_at(list[1]))
+    offer(best, true, A02, tree.stmt_at(list[1]))
 }
 
 // A02.
@@ -82,7 +83,7 @@ fn program_rule(tree: &Tree, scope: &Scope, list: &[StmtId]) -> Option<Breach>
     ensures { Narrows (ProgramRows scope.now (map (stmt_spot (trees tree.now)) list.now)) None Nothing result }
 {
     if list.len() == 0 {
-        return offer(None, true, 2, 0);
+        return offer(None, true, A02, 0);
     }
     let best = opening_rule(tree, scope, list[0], None);
     second_rule(tree, list, best)

@@ -3,6 +3,7 @@ ghost use Rattle.std.specs.Prelude.{◌≡◌, ◌⊎◌, ℕ, List, true};
 ghost use Rattle.js_tree.specs.Plain.{Expr, Stmt, Stmts};
 ghost use Rattle.js_tree.specs.Parts.{Spot, AnExpr, AStmt};
 ghost use Rattle.adsafe_rules.specs.declared.scope.Scope.{Scope};
+ghost use Rattle.node_rules.specs.declared.rule_numbers.TheConstants.{A09, A18};
 ghost use Rattle.node_rules.specs.Forms.{is_allowed_callee, is_directive};
 ghost use Rattle.node_rules.specs.Parts.{Stands};
 ghost use Rattle.adsafe_rules.specs.Rows.{Broken, AnyFound};
@@ -18,17 +19,17 @@ pub fn one_first()
 /// The callee of a call that A09 allows is passed over: it breaks no other rule.
 pub fn callee_breaks()
     ensures { (env around : List Spot) (e : Expr) (m : Spot) (r p : ℕ) → is_allowed_callee e ≡ true
-        → Stands env (AnExpr e) around m → Broken around m r p → r ≡ 9 }
+        → Stands env (AnExpr e) around m → Broken around m r p → r ≡ A09 }
 {}
 
 /// A function's `"use strict";` is passed over: it breaks no rule but A18, which exempts it.
 pub fn directive_breaks()
     ensures { (env around : List Spot) (s : Stmt) (m : Spot) (r p : ℕ) → is_directive s ≡ true
-        → Stands env (AStmt s) around m → Broken around m r p → r ≡ 18 }
+        → Stands env (AStmt s) around m → Broken around m r p → r ≡ A18 }
 {}
 
 /// The call with which a text begins is passed over, but for its function: it breaks no rule but A09, which exempts it.
 pub fn opening_breaks()
     ensures { (scope : Scope) (env around : List Spot) (s m : Spot) (r p : ℕ) → is_opening scope s ≡ true
-        → Stands env s around m → Broken around m r p → (r ≡ 9) ⊎ AnyFound env (opening_functions s) r p }
+        → Stands env s around m → Broken around m r p → (r ≡ A09) ⊎ AnyFound env (opening_functions s) r p }
 {}

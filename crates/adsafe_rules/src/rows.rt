@@ -20,6 +20,7 @@ use node_rules::rows::{
     random_rule, subscript_rule, target_rule, used_name, used_variable, written_loop_variable,
     wrong_target_rule,
 };
+use node_rules::rule_numbers::{A11, A16, A18};
 use node_rules::shapes::{is_idle, literal};
 
 // The names of properties in an expression: A03 and A05.
@@ -85,9 +86,9 @@ pub fn stmt_rules(
     let node = tree.stmt(id);
     let at = tree.stmt_at(id);
     let places = tree.stmt_names(id);
-    let best = offer(best, is_with(node), 11, at);
-    let best = offer(best, is_stray(enclosing.jumps(), node), 16, at);
-    let best = offer(best, is_idle(tree, node), 18, at);
+    let best = offer(best, is_with(node), A11, at);
+    let best = offer(best, is_stray(enclosing.jumps(), node), A16, at);
+    let best = offer(best, is_idle(tree, node), A18, at);
     let best = used_variable(node, at, places, enclosing, best);
     let best = bound_variables(node, at, places, best);
     written_loop_variable(node, at, places, best)

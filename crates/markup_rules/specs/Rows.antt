@@ -10,6 +10,7 @@ use Rattle.plain_tree.specs.Tags.{is_listed_tag}
 use Rattle.plain_tree.specs.Words.{is_plain_words}
 use Rattle.style_text.specs.Styles.{Pair, StyleSpells}
 use Rattle.markup_rules.specs.declared.repeats.Saying.{Saying}
+use Rattle.markup_rules.specs.declared.rule_numbers.TheConstants.{M02, M03, M04, M05, M06, M07, M08, M09, M10, M11, M12}
 use Rattle.markup_rules.specs.Words.{is_listed_attribute, is_script_attribute, is_wordy, is_address, is_own_id, has_word}
 use Rattle.markup_rules.specs.Elements.{Element, elements, roots, others, scripts, is_script, is_sourced, first_named, has_named, is_named, before_scripts, Item, items, item_at, is_div_item, is_script_item, is_own_script}
 
@@ -35,7 +36,7 @@ is_content i = not (is_script_item i)
 -- M05: a script is followed by what is no script
 abbrev pub Followed : List Item → ℕ → ℕ → Type 0
 Followed [] = Nothing
-Followed (i ∷ rest) = Either (If (is_script_item i && list_any is_content rest) (One 5 (item_at i))) (Followed rest)
+Followed (i ∷ rest) = Either (If (is_script_item i && list_any is_content rest) (One M05 (item_at i))) (Followed rest)
 
 -- each that says what one before it says
 abbrev pub Twice : ℕ → List Saying → ℕ → ℕ → Type 0
@@ -55,11 +56,11 @@ ids es = flat_map (λ e. map value_of (filter (is_named (codes "id")) e.attrs)) 
 abbrev pub FileRows : Trees Places → ℕ → ℕ → Type 0
 FileRows file =
     -- M02: it is not one `div`
-    Either (Perhaps 2 (misrooted (items file)))
+    Either (Perhaps M02 (misrooted (items file)))
     -- M05: a script beside the root is followed by what is no script
     (Either (Followed (items file))
     -- M08: an `id` stands twice
-    (Twice 8 (ids (elements file))))
+    (Twice M08 (ids (elements file))))
 
 -- ## The root
 
@@ -79,7 +80,7 @@ unended at is = fold ending (Some at) is
 -- M05: the first script may have no `src`, and each after it has one
 abbrev pub Disordered : Bool → List Element → ℕ → ℕ → Type 0
 Disordered is_first [] = Nothing
-Disordered is_first (s ∷ rest) = Either (If (if is_first then is_sourced s else not (is_sourced s)) (One 5 s.at)) (Disordered false rest)
+Disordered is_first (s ∷ rest) = Either (If (if is_first then is_sourced s else not (is_sourced s)) (One M05 s.at)) (Disordered false rest)
 
 abbrev pub before_last : List Element → List Element
 before_last ss = take (length ss - 1) ss
@@ -91,23 +92,23 @@ node_limit = 16384
 abbrev pub RootRows : List ℕ → Element → ℕ → ℕ → Type 0
 RootRows name root =
     -- M03: its `id` is not the slot's name
-    Either (Perhaps 3 (misnamed name root.at (first_named (codes "id") root.attrs)))
+    Either (Perhaps M03 (misnamed name root.at (first_named (codes "id") root.attrs)))
     -- M04: its last item is no script without `src`
-    (Either (Perhaps 4 (unended root.at (items root.kids)))
+    (Either (Perhaps M04 (unended root.at (items root.kids)))
     -- M05: its scripts before the last are out of order
     (Either (Disordered true (before_last (scripts root)))
     -- M12: with what stands before its scripts it has too many nodes
-    (If (nat_lt node_limit (size (before_scripts root.kids) + 1)) (One 12 root.at))))
+    (If (nat_lt node_limit (size (before_scripts root.kids) + 1)) (One M12 root.at))))
 
 -- ## Another element than the root
 
 -- M08: an `id` is not the slot's
 abbrev pub IdRow : List ℕ → Attr → ℕ → ℕ → Type 0
-IdRow name a = If (is_named (codes "id") a && not (is_own_id name a.value)) (One 8 a.value_at)
+IdRow name a = If (is_named (codes "id") a && not (is_own_id name a.value)) (One M08 a.value_at)
 
 -- M05: a script stands in it
 abbrev pub InsideRow : Element → ℕ → ℕ → Type 0
-InsideRow s = One 5 s.at
+InsideRow s = One M05 s.at
 
 abbrev pub OtherRows : List ℕ → Element → ℕ → ℕ → Type 0
 OtherRows name e = Either (Each InsideRow (scripts e)) (Each (IdRow name) e.attrs)
@@ -125,14 +126,14 @@ is_unsafe a = (is_wordy a.name && not (is_plain_words a.value)) || (is_address a
 pub record Unstyled (a : Attr) (r p : ℕ) : Type 0 where
   pub named : is_named (codes "style") a ≡ true
   pub unspelled : (pairs : List Pair) → StyleSpells a.value pairs → ⊥
-  pub broken : One 10 a.value_at r p
+  pub broken : One M10 a.value_at r p
 
 abbrev pub AttributeRows : Bool → Attr → ℕ → ℕ → Type 0
 AttributeRows of_script a =
     -- M07: it is not listed, or is not for a script
-    Either (If (not (is_allowed of_script a.name)) (One 7 a.at))
+    Either (If (not (is_allowed of_script a.name)) (One M07 a.at))
     -- M09: its value is unsafe
-    (Either (If (is_unsafe a) (One 9 a.value_at))
+    (Either (If (is_unsafe a) (One M09 a.value_at))
     (Unstyled a))
 
 -- M06: the tag is not listed
@@ -142,17 +143,17 @@ is_foreign tag = not (is_script tag) && not (is_listed_tag tag)
 -- the rules of a slot's file and of an `html` text
 abbrev pub MarkupRows : Element → ℕ → ℕ → Type 0
 MarkupRows e =
-    Either (If (is_foreign e.tag) (One 6 e.at))
+    Either (If (is_foreign e.tag) (One M06 e.at))
     -- M07: an attribute stands twice
-    (Either (Twice 7 (map name_of e.attrs))
+    (Either (Twice M07 (map name_of e.attrs))
     (Each (AttributeRows (is_script e.tag)) e.attrs))
 
 abbrev pub SlotAttributeRows : List ℕ → List (List ℕ) → Bool → Attr → ℕ → ℕ → Type 0
 SlotAttributeRows name libs of_script a =
     -- M08: a `for` is not the slot's
-    Either (If (is_named (codes "for") a && not (is_own_id name a.value)) (One 8 a.value_at))
+    Either (If (is_named (codes "for") a && not (is_own_id name a.value)) (One M08 a.value_at))
     -- M11: the `src` of a script is no library of the slot
-    (If (of_script && is_named (codes "src") a && not (list_any (bytes_eq a.value) libs)) (One 11 a.value_at))
+    (If (of_script && is_named (codes "src") a && not (list_any (bytes_eq a.value) libs)) (One M11 a.value_at))
 
 -- the rules of a slot's file alone
 abbrev pub SlotRows : List ℕ → List (List ℕ) → Element → ℕ → ℕ → Type 0

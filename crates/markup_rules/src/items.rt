@@ -8,6 +8,7 @@ ghost use Rattle.markup_rules.specs.Elements.{items, is_blank_unit, is_blank, is
 ghost use Rattle.markup_rules.specs.Parts.{IsSeen};
 ghost use Rattle.markup_rules.specs.Rows.{misrooted, unended, Followed};
 
+use crate::rule_numbers::M05;
 use code_units::{Text, is_word};
 use first_breach::{Breach, offer};
 use plain_tree::{Attr, Plain};
@@ -162,7 +163,7 @@ pub fn followed(nodes: &[Plain], best: Option<Breach>) -> Option<Breach>
     'nodes: while i > 0 {
         i -= 1;
         if let Some(item) = glance(&nodes[i]) {
-            least = offer(least, is_followed(&item, content_behind), 5, item.at);
+            least = offer(least, is_followed(&item, content_behind), M05, item.at);
             content_behind = has_content(&item, content_behind);
         }
     }

@@ -8,4 +8,5 @@ pub mod part;
 pub mod repeats;
 pub mod root;
 pub mod rows;
+pub mod rule_numbers;
 pub mod words;

@@ -10,6 +10,7 @@ ghost use Rattle.markup_rules.specs.Rows.{Perhaps, misnamed, Disordered, node_li
 
 use crate::items::{first_named, has_named, unended};
 use crate::part::{Part, part_of, scripts_of};
+use crate::rule_numbers::{M03, M04, M05, M12};
 use code_units::{Memory, Text, is_word};
 use first_breach::{Breach, offer};
 use plain_tree::Plain;
@@ -67,7 +68,7 @@ fn disordered(scripts: &[Part], best: Option<Breach>) -> Option<Breach>
     let mut least = best;
     let mut is_first = true;
     'scripts: for script in scripts {
-        least = offer(least, is_misplaced(script, is_first), 5, script.at);
+        least = offer(least, is_misplaced(script, is_first), M05, script.at);
         is_first = false;
     }
     least
@@ -131,9 +132,9 @@ pub fn root_rows(
 ) -> Result<Option<Breach>, Memory>
     ensures { IfOk result (Narrows (RootRows name.now (element_of root.now)) best Nothing) }
 {
-    let best = offer_at(best, 3, misnamed(name, root));
-    let best = offer_at(best, 4, unended(root.children, root.at));
+    let best = offer_at(best, M03, misnamed(name, root));
+    let best = offer_at(best, M04, unended(root.children, root.at));
     let scripts = scripts_of(alloc, root.children)?;
     let best = disordered(before_last(&scripts), best);
-    Ok(offer(best, is_crowded(root.children), 12, root.at))
+    Ok(offer(best, is_crowded(root.children), M12, root.at))
 }

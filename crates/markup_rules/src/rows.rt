@@ -12,6 +12,7 @@ ghost use Rattle.markup_rules.specs.Rows.{is_allowed, is_unsafe, is_foreign, Uns
 use crate::items::followed;
 use crate::part::{Part, scripts_of};
 use crate::repeats::{Saying, repeated};
+use crate::rule_numbers::{M05, M06, M07, M08, M09, M10, M11};
 use crate::words::{
     has_word, is_address, is_listed_attribute, is_own_id, is_script_attribute, is_wordy,
 };
@@ -58,7 +59,7 @@ fn unstyled(alloc: Global, attr: &Attr, best: Option<Breach>) -> Result<Option<B
     }
     match read_style(alloc, &attr.value) {
         Ok(_) => Ok(best),
-        Err(StyleFault::BadStyle { .. }) => Ok(offer(best, true, 10, attr.value_at)),
+        Err(StyleFault::BadStyle { .. }) => Ok(offer(best, true, M10, attr.value_at)),
         Err(StyleFault::Memory) => Err(Memory),
     }
 }
@@ -72,8 +73,8 @@ fn attribute_rows(
 ) -> Result<Option<Breach>, Memory>
     ensures { IfOk result (Narrows (AttributeRows of_script attr.now) best Nothing) }
 {
-    let best = offer(best, !is_allowed(of_script, &attr.name), 7, attr.at);
-    let best = offer(best, is_unsafe(attr), 9, attr.value_at);
+    let best = offer(best, !is_allowed(of_script, &attr.name), M07, attr.at);
+    let best = offer(best, is_unsafe(attr), M09, attr.value_at);
     unstyled(alloc, attr, best)
 }
 
@@ -118,9 +119,9 @@ fn is_foreign(tag: &Text) -> bool
 fn markup_rows(alloc: Global, part: &Part, best: Option<Breach>) -> Result<Option<Breach>, Memory>
     ensures { IfOk result (Narrows (MarkupRows (element_of part.now)) best Nothing) }
 {
-    let best = offer(best, is_foreign(part.tag), 6, part.at);
+    let best = offer(best, is_foreign(part.tag), M06, part.at);
     let names = names_of(alloc, part.attrs)?;
-    let best = repeated(alloc, &names, 7, best)?;
+    let best = repeated(alloc, &names, M07, best)?;
     let of_script = is_word(part.tag, b"script");
     all_attribute_rows(alloc, of_script, part.attrs, best)
 }
@@ -171,11 +172,11 @@ fn slot_attribute_rows(
 ) -> Option<Breach>
     ensures { Narrows (SlotAttributeRows slot.now.name.now slot.now.libs.now of_script attr.now) best Nothing result }
 {
-    let best = offer(best, is_stray(slot.name, attr, b"for"), 8, attr.value_at);
+    let best = offer(best, is_stray(slot.name, attr, b"for"), M08, attr.value_at);
     offer(
         best,
         is_missing(slot.libs, of_script, attr),
-        11,
+        M11,
         attr.value_at,
     )
 }
@@ -217,7 +218,7 @@ fn id_rows(name: &Text, attrs: &[Attr], best: Option<Breach>) -> Option<Breach>
 {
     let mut least = best;
     'attrs: for attr in attrs {
-        least = offer(least, is_stray(name, attr, b"id"), 8, attr.value_at);
+        least = offer(least, is_stray(name, attr, b"id"), M08, attr.value_at);
     }
     least
 }
@@ -228,7 +229,7 @@ fn inside_rows(scripts: &[Part], best: Option<Breach>) -> Option<Breach>
 {
     let mut least = best;
     'scripts: for script in scripts {
-        least = offer(least, true, 5, script.at);
+        least = offer(least, true, M05, script.at);
     }
     least
 }

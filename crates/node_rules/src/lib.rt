@@ -8,5 +8,6 @@ pub mod forms;
 mod numbers;
 pub mod pushes;
 pub mod rows;
+pub mod rule_numbers;
 pub mod shapes;
 pub mod words;

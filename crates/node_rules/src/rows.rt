@@ -15,6 +15,7 @@ use crate::enclosing::Enclosing;
 use crate::forms::{
     is_adsafe, is_bitwise, is_dropping, is_loose_equality, is_this, is_typed, is_wrong_number,
 };
+use crate::rule_numbers::{A03, A04, A05, A06, A07, A08, A09, A10, A12, A13, A14, A15, A17, A19};
 use crate::shapes::{is_name, is_property, is_subscript, is_target, literal, variable};
 use crate::words::{is_global, is_reaching, is_word};
 use code_units::{Text, has_edge_underscore, is_banned};
@@ -32,7 +33,7 @@ fn unbound(name: &Text, at: usize, enclosing: &Enclosing, best: Option<Breach>) 
     if is_global(name) {
         return best;
     }
-    offer(best, true, 6, at)
+    offer(best, true, A06, at)
 }
 
 /// A name that is used: A03, A05 and A06.
@@ -40,8 +41,8 @@ fn used(name: &Text, at: usize, enclosing: &Enclosing, best: Option<Breach>) -> 
     requires { IsCounted enclosing.now }
     ensures { (f : Forest) → AreKnown f enclosing.now.stack.items → Narrows (UseRow (env_of f enclosing.now.stack.items) (named name.now at)) best Nothing result }
 {
-    let best = offer(best, has_edge_underscore(name), 3, at);
-    let best = offer(best, is_reaching(name), 5, at);
+    let best = offer(best, has_edge_underscore(name), A03, at);
+    let best = offer(best, is_reaching(name), A05, at);
     unbound(name, at, enclosing, best)
 }
 
@@ -49,37 +50,37 @@ fn used(name: &Text, at: usize, enclosing: &Enclosing, best: Option<Breach>) -> 
 pub fn bound(name: &Text, at: usize, best: Option<Breach>) -> Option<Breach>
     ensures { Narrows (BinderRow (named name.now at)) best Nothing result }
 {
-    let best = offer(best, has_edge_underscore(name), 3, at);
-    let best = offer(best, is_reaching(name), 5, at);
-    offer(best, is_global(name), 8, at)
+    let best = offer(best, has_edge_underscore(name), A03, at);
+    let best = offer(best, is_reaching(name), A05, at);
+    offer(best, is_global(name), A08, at)
 }
 
 /// A name that is written to: A08.
 fn written(name: &Text, at: usize, best: Option<Breach>) -> Option<Breach>
     ensures { Narrows (TargetRow (named name.now at)) best Nothing result }
 {
-    offer(best, is_global(name), 8, at)
+    offer(best, is_global(name), A08, at)
 }
 
 /// A property: A03 and A05.
 pub fn property(name: &Text, at: usize, best: Option<Breach>) -> Option<Breach>
     ensures { Narrows (PropertyRow (named name.now at)) best Nothing result }
 {
-    let best = offer(best, has_edge_underscore(name), 3, at);
-    offer(best, is_banned(name), 5, at)
+    let best = offer(best, has_edge_underscore(name), A03, at);
+    offer(best, is_banned(name), A05, at)
 }
 
 /// The rules of an expression that its form alone decides.
 pub fn form_rules(node: &Expr, at: usize, best: Option<Breach>) -> Option<Breach>
     ensures { (f : Forest) → Narrows (FormRows at (plain_form f node.now)) best Nothing result }
 {
-    let best = offer(best, is_this(node), 4, at);
-    let best = offer(best, is_adsafe(node), 9, at);
-    let best = offer(best, is_loose_equality(node), 12, at);
-    let best = offer(best, is_bitwise(node), 13, at);
-    let best = offer(best, is_typed(node), 14, at);
-    let best = offer(best, is_dropping(node), 15, at);
-    offer(best, is_wrong_number(node), 17, at)
+    let best = offer(best, is_this(node), A04, at);
+    let best = offer(best, is_adsafe(node), A09, at);
+    let best = offer(best, is_loose_equality(node), A12, at);
+    let best = offer(best, is_bitwise(node), A13, at);
+    let best = offer(best, is_typed(node), A14, at);
+    let best = offer(best, is_dropping(node), A15, at);
+    offer(best, is_wrong_number(node), A17, at)
 }
 
 /// The place of one of a node's names.
@@ -153,7 +154,7 @@ pub fn used_name(
 fn random(name: &Text, at: usize, best: Option<Breach>) -> Option<Breach>
     ensures { Narrows (RandomRow (named name.now at)) best Nothing result }
 {
-    offer(best, is_word(name, b"random"), 10, at)
+    offer(best, is_word(name, b"random"), A10, at)
 }
 
 // A10.
@@ -226,14 +227,14 @@ fn written_variable(tree: &Tree, id: ExprId, best: Option<Breach>) -> Option<Bre
 #[tactic(auto, using(first_breach::proofs::Narrowing::each_none, first_breach::proofs::Narrowing::each_one))]
 pub fn subscript_rule(tree: &Tree, node: &Expr, best: Option<Breach>) -> Option<Breach>
     requires { AreExprParts (trees tree.now) node.now }
-    ensures { Narrows (Each (One 7) (wrong_subscripts (plain_form (trees tree.now) node.now))) best Nothing result }
+    ensures { Narrows (Each (One A07) (wrong_subscripts (plain_form (trees tree.now) node.now))) best Nothing result }
 {
     match node {
         Expr::Sub(_, key) => {
             if is_subscript(tree, *key) {
                 best
             } else {
-                offer(best, true, 7, tree.expr_at(*key))
+                offer(best, true, A07, tree.expr_at(*key))
             }
         }
         _ => best,
@@ -244,7 +245,7 @@ pub fn subscript_rule(tree: &Tree, node: &Expr, best: Option<Breach>) -> Option<
 #[tactic(auto, using(first_breach::proofs::Narrowing::each_none, first_breach::proofs::Narrowing::each_one))]
 pub fn wrong_target_rule(tree: &Tree, node: &Expr, best: Option<Breach>) -> Option<Breach>
     requires { AreExprParts (trees tree.now) node.now }
-    ensures { Narrows (Each (One 19) (wrong_targets (plain_form (trees tree.now) node.now))) best Nothing result }
+    ensures { Narrows (Each (One A19) (wrong_targets (plain_form (trees tree.now) node.now))) best Nothing result }
 {
     match node {
         Expr::Assign(_, a, _) => assigned(tree, *a, best),
@@ -257,24 +258,24 @@ pub fn wrong_target_rule(tree: &Tree, node: &Expr, best: Option<Breach>) -> Opti
 #[tactic(auto, using(first_breach::proofs::Narrowing::each_none, first_breach::proofs::Narrowing::each_one))]
 fn assigned(tree: &Tree, id: ExprId, best: Option<Breach>) -> Option<Breach>
     requires { IsExpr (trees tree.now) id }
-    ensures { let a = expr_at (trees tree.now) id in Narrows (Each (One 19) (if is_target a then [] else expr_place a ∷ [])) best Nothing result }
+    ensures { let a = expr_at (trees tree.now) id in Narrows (Each (One A19) (if is_target a then [] else expr_place a ∷ [])) best Nothing result }
 {
     if is_target(tree, id) {
         best
     } else {
-        offer(best, true, 19, tree.expr_at(id))
+        offer(best, true, A19, tree.expr_at(id))
     }
 }
 
 #[tactic(auto, using(first_breach::proofs::Narrowing::each_none, first_breach::proofs::Narrowing::each_one))]
 fn deleted(tree: &Tree, id: ExprId, best: Option<Breach>) -> Option<Breach>
     requires { IsExpr (trees tree.now) id }
-    ensures { let a = expr_at (trees tree.now) id in Narrows (Each (One 19) (if is_property a then [] else expr_place a ∷ [])) best Nothing result }
+    ensures { let a = expr_at (trees tree.now) id in Narrows (Each (One A19) (if is_property a then [] else expr_place a ∷ [])) best Nothing result }
 {
     if is_property(tree, id) {
         best
     } else {
-        offer(best, true, 19, tree.expr_at(id))
+        offer(best, true, A19, tree.expr_at(id))
     }
 }
 

@@ -3,6 +3,7 @@ use Rattle.js_tokens.specs.declared.token.TokenFault.{TokenFault}
 use Rattle.js_tokens.specs.declared.token.TokenFault.TheVariants as tokens
 use Rattle.js_parser.specs.declared.ParseFault.{ParseFault}
 use Rattle.js_parser.specs.declared.ParseFault.TheVariants as parse
+use Rattle.node_rules.specs.declared.rule_numbers.TheConstants.{A01, A20}
 use Rattle.adsafe_rules.specs.declared.scope.CheckFault.{CheckFault}
 use Rattle.adsafe_rules.specs.declared.scope.CheckFault.TheVariants as check
 use Rattle.script_check.specs.declared.fault.ScriptFault.{ScriptFault}
@@ -10,13 +11,13 @@ use Rattle.script_check.specs.declared.fault.ScriptFault.TheVariants as fault
 
 -- A01: there is a bad token
 abbrev pub fault_of_tokens : TokenFault → ScriptFault
-fault_of_tokens (tokens.BadToken at) = fault.Broken (record { rule = 1; at = at })
+fault_of_tokens (tokens.BadToken at) = fault.Broken (record { rule = A01; at = at })
 fault_of_tokens tokens.Memory = fault.Memory
 
 -- A01: the tokens are no program; A20: they are nested too deep
 abbrev pub fault_of_parse : ParseFault → ScriptFault
-fault_of_parse (parse.Syntax at) = fault.Broken (record { rule = 1; at = at })
-fault_of_parse (parse.TooDeep at) = fault.Broken (record { rule = 20; at = at })
+fault_of_parse (parse.Syntax at) = fault.Broken (record { rule = A01; at = at })
+fault_of_parse (parse.TooDeep at) = fault.Broken (record { rule = A20; at = at })
 fault_of_parse parse.Memory = fault.Memory
 
 -- A02 to A19

@@ -7,6 +7,7 @@ use Rattle.js_tree.specs.Plain.{Stmts}
 use Rattle.js_grammar.specs.Grammar.{IsProgram}
 use Rattle.js_parser.specs.Signs.{input}
 use Rattle.js_parser.specs.Reads.{lexeme_at}
+use Rattle.node_rules.specs.declared.rule_numbers.TheConstants.{A01, A20}
 use Rattle.adsafe_rules.specs.declared.scope.Scope.{Scope}
 use Rattle.adsafe_rules.specs.declared.scope.Scope.TheVariants as scope
 use Rattle.adsafe_rules.specs.Program.{First, IsClean}
@@ -19,11 +20,11 @@ pub record Reads (bytes : List ℕ) (tokens : List Lexed) (program : Stmts) : Ty
 -- the rule that a text without a program breaks, and the byte where
 pub data TextFirst (bytes : List ℕ) : ℕ → ℕ → Type 0 where
   -- A01: there is a bad token
-  bad_token : {at : ℕ} → BadPlace bytes at → TextFirst bytes 1 at
+  bad_token : {at : ℕ} → BadPlace bytes at → TextFirst bytes A01 at
   -- A01: no program begins with the tokens up to one of them
-  syntax : {tokens : List Lexed} {i : ℕ} → Lexes bytes tokens → IsSyntaxAt IsProgram 200 (input bytes tokens) i → TextFirst bytes 1 (lexeme_at (input bytes tokens) i).at
+  syntax : {tokens : List Lexed} {i : ℕ} → Lexes bytes tokens → IsSyntaxAt IsProgram 200 (input bytes tokens) i → TextFirst bytes A01 (lexeme_at (input bytes tokens) i).at
   -- A20: a token opens the 201st link
-  too_deep : {tokens : List Lexed} {i : ℕ} → Lexes bytes tokens → IsTooDeepAt IsProgram 200 (input bytes tokens) i → TextFirst bytes 20 (lexeme_at (input bytes tokens) i).at
+  too_deep : {tokens : List Lexed} {i : ℕ} → Lexes bytes tokens → IsTooDeepAt IsProgram 200 (input bytes tokens) i → TextFirst bytes A20 (lexeme_at (input bytes tokens) i).at
 
 -- the first rule that a script at its position breaks, and the byte where
 pub data ScriptFirst (bytes : List ℕ) (scope : Scope) : ℕ → ℕ → Type 0 where

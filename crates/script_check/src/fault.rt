@@ -3,6 +3,7 @@ use adsafe_rules::CheckFault;
 use first_breach::Breach;
 use js_parser::ParseFault;
 use js_tokens::TokenFault;
+use node_rules::rule_numbers::{A01, A20};
 
 /// Why a script is refused.
 #[derive(Clone, Copy, PartialEq, Eq, Drop)]
@@ -13,12 +14,6 @@ pub enum ScriptFault {
     Memory,
 }
 
-// The rule of a text without a program.
-const SYNTAX: u8 = 1;
-
-// The rule of a text that is nested too deep.
-const DEPTH: u8 = 20;
-
 impl From<TokenFault> for ScriptFault {
     ghost use Rattle.std.specs.Prelude.{◌≡◌};
     ghost use Rattle.script_check.specs.Faults.{fault_of_tokens};
@@ -27,7 +22,7 @@ impl From<TokenFault> for ScriptFault {
 
     fn from(fault: TokenFault) -> ScriptFault {
         match fault {
-            TokenFault::BadToken { at } => ScriptFault::Broken(Breach { rule: SYNTAX, at }),
+            TokenFault::BadToken { at } => ScriptFault::Broken(Breach { rule: A01, at }),
             TokenFault::Memory => ScriptFault::Memory,
         }
     }
@@ -41,8 +36,8 @@ impl From<ParseFault> for ScriptFault {
 
     fn from(fault: ParseFault) -> ScriptFault {
         match fault {
-            ParseFault::Syntax { at } => ScriptFault::Broken(Breach { rule: SYNTAX, at }),
-            ParseFault::TooDeep { at } => ScriptFault::Broken(Breach { rule: DEPTH, at }),
+            ParseFault::Syntax { at } => ScriptFault::Broken(Breach { rule: A01, at }),
+            ParseFault::TooDeep { at } => ScriptFault::Broken(Breach { rule: A20, at }),
             ParseFault::Memory => ScriptFault::Memory,
         }
     }

@@ -5,6 +5,7 @@ use Rattle.plain_tree.specs.Plains.{Places}
 use Rattle.markup_grammar.specs.Markup.{MarkupSpells, BadMarkupPlace}
 use Rattle.markup_reader.specs.declared.fault.MarkupFault.{MarkupFault}
 use Rattle.markup_reader.specs.declared.fault.MarkupFault.TheVariants as markup
+use Rattle.markup_rules.specs.declared.rule_numbers.TheConstants as number
 use Rattle.widget_form.specs.declared.form.Form.{Form}
 use Rattle.widget_form.specs.declared.form.FormFault.{FormFault}
 use Rattle.widget_form.specs.declared.form.FormFault.TheVariants as form
@@ -22,12 +23,12 @@ pub record IsSlot (name : List ℕ) (libs : List (List ℕ)) (bytes : List ℕ) 
 
 -- the first broken rule of M01 to M12: M01 where the bytes are no file, and otherwise the first of the others
 pub data FirstOfSlot (name : List ℕ) (libs : List (List ℕ)) (bytes : List ℕ) : ℕ → ℕ → Type 0 where
-  M01 : {at : ℕ} → BadMarkupPlace bytes at → FirstOfSlot name libs bytes 1 at
+  M01 : {at : ℕ} → BadMarkupPlace bytes at → FirstOfSlot name libs bytes number.M01 at
   of_file : {file : Trees Places} {rule at : ℕ} → MarkupSpells bytes file → First name libs file rule at → FirstOfSlot name libs bytes rule at
 
 -- what comes of bytes that are no file, and of a file without a form
 abbrev pub fault_of_markup : MarkupFault → CheckMarkupFault
-fault_of_markup (markup.BadMarkup at) = fault.Broken 1 at
+fault_of_markup (markup.BadMarkup at) = fault.Broken number.M01 at
 fault_of_markup markup.Memory = fault.Memory
 
 abbrev pub fault_of_form : FormFault → CheckMarkupFault

@@ -4,6 +4,7 @@ ghost use Rattle.slot_check.specs.Slots.{IsSlot, IsSlotFault};
 
 use code_units::Text;
 use markup_reader::{MarkupFault, read_markup};
+use markup_rules::rule_numbers::M01;
 use std::alloc::Global;
 use widget_form::{Form, FormFault, split};
 
@@ -24,7 +25,7 @@ impl From<MarkupFault> for CheckMarkupFault {
 
     fn from(fault: MarkupFault) -> CheckMarkupFault {
         match fault {
-            MarkupFault::BadMarkup { at } => CheckMarkupFault::Broken { rule: 1, at },
+            MarkupFault::BadMarkup { at } => CheckMarkupFault::Broken { rule: M01, at },
             MarkupFault::Memory => CheckMarkupFault::Memory,
         }
     }

@@ -14,6 +14,7 @@ use markup_rules::part::{Part, all_elements, other_elements, root_of};
 use markup_rules::repeats::{Saying, repeated};
 use markup_rules::root::{offer_at, root_rows};
 use markup_rules::rows::{Slot, all_markup_rows, all_other_rows, all_slot_rows};
+use markup_rules::rule_numbers::{M02, M08};
 use plain_tree::{Attr, Plain};
 use std::alloc::Global;
 
@@ -54,10 +55,10 @@ fn file_rows(
     requires { map element_of all.now ≡ elements (placed_all content.now) }
     ensures { IfOk result (Narrows (FileRows (placed_all content.now)) best Nothing) }
 {
-    let best = offer_at(best, 2, misrooted(content));
+    let best = offer_at(best, M02, misrooted(content));
     let best = followed(content, best);
     let ids = ids_of(alloc, all)?;
-    repeated(alloc, &ids, 8, best)
+    repeated(alloc, &ids, M08, best)
 }
 
 // What the root breaks, if there is one.
