@@ -18,7 +18,7 @@ ghost use Rattle.js_direct.specs.Comes.{Comes, IsReady, Reaches};
 use crate::forms::{form_on, operand_on};
 use crate::properties::{indexed, is_nothing, name_of};
 use crate::run::{Ended, Here, Run, Site, leave_job, take_value, throw, wait};
-use code_units::{Memory, Text};
+use code_units::{Memory, Text, whole_text};
 use js_flow::{FormFrame, Frame, Job, Place, Reference};
 use js_image::{Fault, Removed, get, indexed_value, remove, variable};
 use js_tree::{Expr, ExprId};
@@ -459,13 +459,11 @@ pub(crate) fn remove_on(
     ensures kept { Kept (trees_of site.now.codes.now.items) site.now.widget store.old store.new }
 {
     match of {
-        Reference::Property(base, x) => match remove(store, site.widget, base, x) {
-            Removed::Done(answer) => {
-                *out = Value::Bool(answer);
-                Ok(Ended::Is)
-            }
-            Removed::Throw(fault) => throw(site, run, store, fault, out),
-        },
+        Reference::Property(base, x) => remove_named(site, run, store, base, x, out),
+        Reference::Element(cell, i) => {
+            let name = whole_text(site.alloc, i64::from(*i))?;
+            remove_named(site, run, store, &Value::Ref(*cell), &name, out)
+        }
         Reference::Variable(_) => {
             *out = Value::Bool(true);
             Ok(Ended::Is)
@@ -474,5 +472,31 @@ pub(crate) fn remove_on(
             *out = Value::Bool(true);
             Ok(Ended::Is)
         }
+    }
+}
+
+// A property is taken out by its name.
+fn remove_named(
+    site: &Site,
+    run: &mut Run,
+    store: &mut Store,
+    base: &Value,
+    name: &Text,
+    out: &mut Value,
+) -> Result<Ended, Memory>
+    requires ready { IsReady (trees_of site.now.codes.now.items) site.now.widget store.old run.old }
+    requires held { IsFine site.now.widget store.old.cells base.now }
+    ensures comes { let F = trees_of site.now.codes.now.items in let w = site.now.widget in
+        IfOk result (λ how. Comes F w store.old store.new 1
+        (expressions.delete_at (meaning.Property (seen w store.old.cells base.now) name.now))
+        run.old run.new how out.new) }
+    ensures kept { Kept (trees_of site.now.codes.now.items) site.now.widget store.old store.new }
+{
+    match remove(store, site.widget, base, name) {
+        Removed::Done(answer) => {
+            *out = Value::Bool(answer);
+            Ok(Ended::Is)
+        }
+        Removed::Throw(fault) => throw(site, run, store, fault, out),
     }
 }

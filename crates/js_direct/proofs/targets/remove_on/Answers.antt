@@ -19,18 +19,6 @@ use Rattle.widget_meaning.specs.Costs as costs
 use Rattle.js_flow.specs.declared.job.Completion.TheVariants as completion
 use Rattle.js_direct.proofs.targets.remove_on.Goals as goal
 
-pub returns-in-Done-clause-comes : goal.returns-in-Done-clause-comes
-returns-in-Done-clause-comes c =
-    let fs = trees_of c.args.site.now.codes.now.items in
-    let w = c.args.site.now.widget in
-    let old = c.args.store.now in
-    let of = c.args.of.now in
-    let mid = c.remove.new.store in
-    let k : Bool → State → Plan = λ b t. give (meaning.Truth b) t in
-    let first : (r : Rest) → delete_at (reference_of w old.cells of) (image fs r w old) ≡ removed_plan c.remove.result k (image fs r w mid) = λ r. ap (λ q. delete_at (reference_of w old.cells q) (image fs r w old)) c.in-Property.is ∙ c.remove.ensures.plan fs r k in
-    gives fs w old mid 1 (delete_at (reference_of w old.cells of)) c.args.run.now c.args.run.now ended.Is (completion.Is (value.Bool c.in-Done.answer)) tt refl c.requires.ready.2
-    (λ r. first r ∙ ap (λ q. removed_plan q k (image fs r w mid)) c.in-Done.is) tt (omega arith)
-
 pub returns-in-Variable-clause-comes : goal.returns-in-Variable-clause-comes
 returns-in-Variable-clause-comes c =
     let fs = trees_of c.args.site.now.codes.now.items in
@@ -47,33 +35,13 @@ returns-in-Found-clause-comes c =
     gives fs w old old 1 (delete_at (reference_of w old.cells c.args.of.now)) c.args.run.now c.args.run.now ended.Is (completion.Is (value.Bool true)) tt refl c.requires.ready.2
     (λ r. ap (λ q. delete_at (reference_of w old.cells q) (image fs r w old)) c.in-Found.is) tt (omega arith)
 
-pub returns-in-Done-clause-kept : goal.returns-in-Done-clause-kept
-returns-in-Done-clause-kept c = c.remove.ensures.kept (trees_of c.args.site.now.codes.now.items)
-
-pub throw-requires : goal.throw-requires
-throw-requires c =
+pub returns-in-Property-clause-comes : goal.returns-in-Property-clause-comes
+returns-in-Property-clause-comes c =
     let fs = trees_of c.args.site.now.codes.now.items in
     let w = c.args.site.now.widget in
     let old = c.args.store.now in
-    record { ready = (c.requires.ready.0, (c.remove.ensures.kept fs).confined c.requires.ready.1, c.requires.ready.2) }
+    subst (λ q. IfOk c.remove_named.result (λ h. Comes fs w old c.remove_named.new.store 1 (delete_at (reference_of w old.cells q)) c.args.run.now c.remove_named.new.run h c.remove_named.new.out))
+    (sym c.in-Property.is) c.remove_named.ensures.comes
 
-pub returns-in-Throw-clause-comes : goal.returns-in-Throw-clause-comes
-returns-in-Throw-clause-comes c =
-    let fs = trees_of c.args.site.now.codes.now.items in
-    let w = c.args.site.now.widget in
-    let old = c.args.store.now in
-    let of = c.args.of.now in
-    let mid = c.remove.new.store in
-    let k : Bool → State → Plan = λ b t. give (meaning.Truth b) t in
-    let first : (r : Rest) → delete_at (reference_of w old.cells of) (image fs r w old) ≡ removed_plan c.remove.result k (image fs r w mid) = λ r. ap (λ q. delete_at (reference_of w old.cells q) (image fs r w old)) c.in-Property.is ∙ c.remove.ensures.plan fs r k in
-    IfOk-weaker c.throw.result _ _
-    (λ h x. after_store fs w old mid c.throw.new.store 1 (costs.throw (meant_fault c.in-Throw.fault)) (delete_at (reference_of w old.cells of)) c.args.run.now c.throw.new.run h (ended_as h c.throw.new.out) x
-    (λ r. first r ∙ ap (λ q. removed_plan q k (image fs r w mid)) c.in-Throw.is))
-    c.throw.ensures.comes
-
-pub returns-in-Throw-clause-kept : goal.returns-in-Throw-clause-kept
-returns-in-Throw-clause-kept c =
-    let fs = trees_of c.args.site.now.codes.now.items in
-    let w = c.args.site.now.widget in
-    let old = c.args.store.now in
-    kept_then fs w old c.remove.new.store c.throw.new.store (c.remove.ensures.kept fs) c.throw.ensures.kept
+pub returns-in-Element-clause-comes : goal.returns-in-Element-clause-comes
+returns-in-Element-clause-comes c = ?
