@@ -14,8 +14,8 @@ returns-then-slots-eq0-clause-err c =
     let s = c.self in
     paid_there c.args.self.now s.inside.names s.inside.cells.items s.inside.kept.items s.view_is s.invariant c.args.cell c.cell-held.result.now c.cell-held.ensures (decimal c.args.i) c.args.value c.in-Some._w (sym c.writer.ensures ∙ c.in-Some.is) (Some c.of_index-n.result) (c.of_index-n.ensures.number, c.of_index-n.ensures.within) c.slots_for-slots.result c.slots_for-slots.ensures c.if-slots-eq0.true
 
-pub invariant_of-self : goal.invariant_of-self
-invariant_of-self c =
+pub invariant_of-self-2 : goal.invariant_of-self-2
+invariant_of-self-2 c =
     let s = c.self in
     let wrote = c.in_ok-write_index.ensures.ok in
     shape_unpaid s.inside.names s.inside.names s.inside.cells.items c.write_index.new.cells.items s.inside.raws.entries s.inside.kept.items s.invariant wrote.base (closed_after c.args.self.now s.inside.names s.inside.cells.items s.inside.kept.items s.view_is s.invariant c.args.cell c.cell-held.result.now c.cell-held.ensures c.in-Some._w (sym c.writer.ensures ∙ c.in-Some.is) s.inside.names c.write_index.new.cells.items _ wrote) wrote.heads
