@@ -17,7 +17,9 @@ pub use listing::for_in_names;
 pub use making::{make, make_array, make_call_scope, make_fault, make_scope, word};
 pub use outcome::{Callee, Fault, Made, Paid, Removed, StopCause, Written};
 pub use paying::{pay_slots, pay_text, pay_units};
-pub use reading::{get, indexed_at, indexed_value, is_found, keys, keys_len, property_at, variable, variable_at};
+pub use reading::{
+    get, indexed_at, indexed_value, is_found, keys, keys_len, property_at, variable, variable_at,
+};
 pub use receivers::{
     array_length, bunch_nodes, element, elements, has_objects, has_own, new_indexes,
 };

@@ -113,7 +113,13 @@ fn put_in(
 /// Writes under the name of an index below 2^30 of a cell that the widget holds, as `put` under that name, of which
 /// no text is made.
 #[inline(always)]
-pub fn put_at(store: &mut Store, w: u32, cell: CellId, i: u32, value: Value) -> Result<Written, Memory>
+pub fn put_at(
+    store: &mut Store,
+    w: u32,
+    cell: CellId,
+    i: u32,
+    value: Value,
+) -> Result<Written, Memory>
     requires widget { w < 32 }
     requires held { IsHeld w store.old.cells cell }
     requires index { i < 1073741824 }
