@@ -312,13 +312,7 @@ fn below_bound(z: i64) -> Option<u32>
     ensures { IfSome result (λ i. (z ≡ pos i) × (i < 1073741824)) }
 {
     match u32::try_from(z) {
-        Ok(i) => {
-            if i < 1_073_741_824 {
-                Some(i)
-            } else {
-                None
-            }
-        }
+        Ok(i) => { if i < 1_073_741_824 { Some(i) } else { None } }
         Err(_) => None,
     }
 }
