@@ -21,8 +21,8 @@ ghost use Rattle.js_flow.specs.Free.{left_free};
 ghost use Rattle.js_flow.specs.Left.{all_frames};
 
 use crate::handing::convert;
-use crate::reading::throw;
-use code_units::{Memory, Text, whole_text};
+use crate::reading::{element_name, throw};
+use code_units::{Memory, Text};
 use js_flow::{Completion, Flow, FormFrame, Place, Reference};
 use js_image::{Callee, Paid, Removed, StopCause, callee, pay_text, remove};
 use js_names::Code;
@@ -325,7 +325,7 @@ pub(crate) fn delete(
     match of {
         Reference::Property(base, x) => delete_named(flow, alloc, w, codes, store, &base, &x),
         Reference::Element(cell, i) => {
-            let name = whole_text(alloc, i64::from(i))?;
+            let name = element_name(alloc, i)?;
             let base = Value::Ref(cell);
             delete_named(flow, alloc, w, codes, store, &base, &name)
         }

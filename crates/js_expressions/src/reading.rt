@@ -210,9 +210,16 @@ fn write_element(
     ensures kept { Kept (trees_of codes.now.items) w store.old store.new }
     ensures below { OnOk result (flow.new.below ≡ all_frames flow.old) }
 {
-    let name = whole_text(alloc, i64::from(i))?;
+    let name = element_name(alloc, i)?;
     let base = Value::Ref(cell);
     write_property(flow, alloc, w, codes, store, &base, &name, values)
+}
+
+/// The name of an element.
+pub(crate) fn element_name(alloc: Global, i: u32) -> Result<Text, Memory>
+    ensures { IfOk result (λ t. t ≡ decimal i) }
+{
+    whole_text(alloc, i64::from(i))
 }
 
 // A write of the first value to a property, after which the second is given.

@@ -18,6 +18,12 @@ returns-in-Variable-clause-found c =
     ∙ sym (ap (λ q. expressions.referred (reference_of w s.cells q) (place_of w s.cells c.args.place) (image fs r w s)) c.in-Variable.is))
     c.variable.ensures.found
 
+pub indexed_value-requires-clause-within : goal.indexed_value-requires-clause-within
+indexed_value-requires-clause-within c = (subst (λ (q : Reference). FineReference c.args.w c.args.store.now.cells q) c.in-Element.is c.requires.held.0).0.0
+
+pub indexed_value-requires-clause-index : goal.indexed_value-requires-clause-index
+indexed_value-requires-clause-index c = (subst (λ (q : Reference). FineReference c.args.w c.args.store.now.cells q) c.in-Element.is c.requires.held.0).1
+
 pub returns-in-Element-clause-found : goal.returns-in-Element-clause-found
 returns-in-Element-clause-found c =
     let fs = trees_of c.args.codes.now.items in
