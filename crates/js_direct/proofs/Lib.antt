@@ -4,6 +4,7 @@ pub mod FormFrames
 pub mod Handing
 pub mod Lists
 pub mod Loops
+pub mod Numerals
 pub mod Parts
 pub mod Rarer
 pub mod Reaching

@@ -1,5 +1,5 @@
 //! Names and literals.
-ghost use Rattle.std.specs.Prelude.{◌≡◌, ℕ, List, [], IfOk, IfSome};
+ghost use Rattle.std.specs.Prelude.{◌≡◌, ℕ, List, [], ◌∷◌, IfOk, IfSome};
 ghost use Rattle.code_units.specs.Whole.{number_in};
 ghost use Rattle.js_tree.specs.Plain as node;
 ghost use Rattle.store_cells.specs.Cells.{PlainCell};
@@ -101,18 +101,23 @@ fn digit(units: &[u16]) -> Option<i64>
     ensures { IfSome result (λ z. number_in units.now ≡ WholeRead.Whole z) }
 {
     match units {
-        [48] => Some(0),
-        [49] => Some(1),
-        [50] => Some(2),
-        [51] => Some(3),
-        [52] => Some(4),
-        [53] => Some(5),
-        [54] => Some(6),
-        [55] => Some(7),
-        [56] => Some(8),
-        [57] => Some(9),
+        [unit] => digit_at(*unit),
         _ => None,
     }
+}
+
+// The same by its unit.
+#[inline(always)]
+fn digit_at(unit: u16) -> Option<i64>
+    ensures { IfSome result (λ z. number_in (unit ∷ []) ≡ WholeRead.Whole z) }
+{
+    if unit < 48 {
+        return None;
+    }
+    if unit > 57 {
+        return None;
+    }
+    Some((unit - 48) as i64)
 }
 
 // The same of any.
