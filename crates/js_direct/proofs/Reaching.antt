@@ -48,7 +48,7 @@ use Rattle.js_direct.proofs.FormFrames.{other_abrupt, other_end}
 
 module _ (fs : List Forest) (code : ℕ) (f : Forest) (id : ExprId) (node : Expr) (here : f ≡ forest_at fs code)
     (same : plain_expr f node (expr_place (expr_at f id)) (expr_names (expr_at f id)) ≡ expr_at f id) where
-  node_same : plain_expr (forest_at fs code) node (expr_place (expr_at (forest_at fs code) id)) (expr_names (expr_at (forest_at fs code) id)) ≡ expr_at (forest_at fs code) id
+  pub node_same : plain_expr (forest_at fs code) node (expr_place (expr_at (forest_at fs code) id)) (expr_names (expr_at (forest_at fs code) id)) ≡ expr_at (forest_at fs code) id
   node_same = subst (λ (g : Forest). plain_expr g node (expr_place (expr_at g id)) (expr_names (expr_at g id)) ≡ expr_at g id) here same
 
   -- a target by its node

@@ -279,20 +279,20 @@ fn hand_sub(run: &mut Run, how: Ended, base: &mut Value) -> Result<Ended, Memory
 
 /// The index of a cell that a base and its subscript are.
 #[derive(Clone, Copy, Drop)]
-pub(crate) struct Indexed {
+pub(crate) struct AtIndex {
     pub cell: CellId,
     pub index: u32,
 }
 
 /// The index of a cell that a base and its subscript are, where that is below 2^30, as most are; else none.
 #[inline(always)]
-pub(crate) fn indexed(base: &Value, subscript: &Value) -> Option<Indexed>
+pub(crate) fn indexed(base: &Value, subscript: &Value) -> Option<AtIndex>
     ensures { IfSome result (λ at. (base.now ≡ Value.Ref at.cell)
         × (subscript.now ≡ Value.Num (Number.Whole (pos at.index))) × (at.index < 1073741824)) }
 {
     let cell = cell_at(base)?;
     let index = index_in(subscript)?;
-    Some(Indexed { cell, index })
+    Some(AtIndex { cell, index })
 }
 
 // The index below 2^30 that a value is.

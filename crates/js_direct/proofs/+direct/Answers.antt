@@ -20,7 +20,8 @@ use Rattle.widget_meaning.specs.Scopes as scopes
 use Rattle.js_direct.proofs.+direct.Goals as goal
 use Rattle.std.proofs.Common.{Bool, List, None, [], ap, arith, drop, if◌then◌else◌, length, refl, rules, subst, suc, sym, true, ℕ, ◌++◌, ◌+◌, ◌-◌, ◌<◌, ◌∙◌, ◌∷◌, ◌≡◌}
 use Rattle.std.proofs.lemmas.Result.{IfOk-weaker}
-use Rattle.js_tree.specs.Forest.{Forest, IsStmt, expr_at, plain_form, stmt_at}
+use Rattle.js_tree.specs.Forest.{Forest, IsStmt, expr_at, fun_at, plain_expr, plain_form, plain_stmt, plain_stmt_form, stmt_at}
+use Rattle.js_tree.specs.declared.nodes.Stmt.{Stmt as StmtNode}
 use Rattle.widget_meaning.specs.Costs.{make, pay, scope_cost, throw}
 use Rattle.widget_meaning.specs.Expressions.{arguments_then, array_parts, assign_with, base_of, callee, expression, object_parts, refer, target}
 use Rattle.widget_meaning.specs.OwnState.{Function, Scope, State, new_array, new_object, plain_object, with_new_scope}
@@ -30,7 +31,7 @@ use Rattle.js_image.specs.Image.{Rest, all_seen, function_in, image, no_rest, se
 use Rattle.js_image.specs.Plans.{IsScopeMade, made_plan, meant_cause, scope_of, scope_plan}
 use Rattle.js_image.proofs.Units.{kept_then}
 use Rattle.js_names.specs.Code.{trees_of}
-use Rattle.js_flow.specs.Parts.{HasStmt, IsBlock, arguments_of, block_list, catch_body, catch_of, clauses_of, decls_of, elements_of, else_of, finally_body, finally_of, forest_at, loop_body, loop_of, properties_of, then_of, variable_of}
+use Rattle.js_flow.specs.Parts.{HasStmt, IsBlock, arguments_of, block_list, catch_body, catch_of, clauses_of, decls_of, elements_of, else_of, finally_body, finally_of, first_of, forest_at, loop_body, loop_of, properties_of, then_of, variable_of}
 use Rattle.js_flow.specs.Views.{completion_of, for_in_loop, job_of, name_at, place_of, reference_of}
 use Rattle.js_flow.proofs.Stays.{completion_fine, completion_same, place_fine, place_same, reference_fine, reference_same}
 use Rattle.js_direct.proofs.Lists.{before_then, goes_both, goes_then, left_no_value, part_goes}
@@ -46,7 +47,7 @@ use Rattle.js_tree.specs.declared.nodes.AssignOp.{AssignOp}
 use Rattle.js_flow.specs.Forms.{form_taken, property_done}
 use Rattle.js_tree.specs.Trees.{trees}
 use Rattle.js_tree.specs.declared.nodes.Expr.{Expr}
-use Rattle.js_direct.proofs.Reaching.{at_eval, at_target, found_form, goes_on, goes_past, less_one, no_value, parts_at}
+use Rattle.js_direct.proofs.Reaching.{at_eval, at_target, found_form, goes_on, goes_past, less_one, no_value, node_same, parts_at}
 use Rattle.js_direct.proofs.Handing.{hand_form, hand_ok, hand_target, hands, passes_normal, passes_value, placed_ok}
 use Rattle.store_cells.specs.Cells.{PlainCell}
 use Rattle.js_flow.specs.declared.frame.Assigning.{Assigning}
@@ -70,7 +71,7 @@ use Rattle.js_direct.proofs.Loops.{after_fine, after_free, after_taken, again_no
 use Rattle.js_image.proofs.Hosts.{entry_link}
 use Rattle.widget_meaning.specs.Statements.{bodies, branch, caught, choose_case, finally, for_in, for_in_next, for_in_over, from_default, in_catch, last_end, switch_end}
 use Rattle.js_direct.proofs.Rarer.{caught_passes, charge_paid, charge_waits, clause_passes, end_waits, names_next, one_name, then_gives}
-use Rattle.js_tree.specs.Plain.{CatchAs, NoBlock, NoCatch, SomeBlock}
+use Rattle.js_tree.specs.Plain.{CatchAs, Expr as Tree, NoBlock, NoCatch, SomeBlock, Stmt, expr_names, expr_place, stmt_names, stmt_place}
 use Rattle.js_image.specs.declared.outcome.Made.{Made}
 use Rattle.std.specs.List.{IsDistinct}
 use Rattle.std.specs.Str.{bytes_eq}
@@ -2618,6 +2619,280 @@ forms::operand_on-returns-in-Num-clause-comes t c =
     (λ x. and_then_ret (body j x) ∙ at_eval fs code f c.args.id c.expr.result.now c.requires.tree c.expr.ensures.same pl x ∙ ap (λ (e : Expr). expression (plain_form (forest_at fs code) e) pl x) c.in-Num.is) (h has c.requires.ready.2) (omega arith))
     c.number_on.ensures.comes
 
+pub forms::form_on-returns-in-Name-clause-comes : goal.forms::form_on-returns-in-Name-clause-comes
+forms::form_on-returns-in-Name-clause-comes t c =
+    let fs = trees_of c.args.here.now.site.now.codes.now.items in
+    let w = c.args.here.now.site.now.widget in
+    let old = c.args.store.now in
+    let at = c.args.here.now.at in
+    let f = trees c.args.here.now.tree.now in
+    let g = forest_at fs at.code in
+    let pl = place_of w old.cells at in
+    let whole : State → Plan = body (job_of fs w old.cells (job.Eval c.args.id at)) in
+    IfOk-weaker c.name_on.result _ _
+    (λ h x. instead fs w old old 30 30 (expression (node.Name c.in-Name.name) pl) whole c.args.run.now c.args.run.now h _ (x c.args.run.now c.requires.ready.2)
+    (λ r. at_eval fs at.code f c.args.id c.expr.result.now c.requires.tree c.expr.ensures.same pl (image fs r w old)
+    ∙ ap (λ (e : Expr). expression (plain_form g e) pl (image fs r w old)) c.in-Name.is) (omega arith))
+    c.name_on.ensures.comes
+
+pub forms::form_on-returns-in-Num-clause-comes : goal.forms::form_on-returns-in-Num-clause-comes
+forms::form_on-returns-in-Num-clause-comes t c =
+    let fs = trees_of c.args.here.now.site.now.codes.now.items in
+    let w = c.args.here.now.site.now.widget in
+    let old = c.args.store.now in
+    let at = c.args.here.now.at in
+    let f = trees c.args.here.now.tree.now in
+    let g = forest_at fs at.code in
+    let pl = place_of w old.cells at in
+    let whole : State → Plan = body (job_of fs w old.cells (job.Eval c.args.id at)) in
+    IfOk-weaker c.number_on.result _ _
+    (λ h x. instead fs w old old 30 30 (expression (node.Num c.in-Num.text) pl) whole c.args.run.now c.args.run.now h _ (x c.args.run.now c.requires.ready.2)
+    (λ r. at_eval fs at.code f c.args.id c.expr.result.now c.requires.tree c.expr.ensures.same pl (image fs r w old)
+    ∙ ap (λ (e : Expr). expression (plain_form g e) pl (image fs r w old)) c.in-Num.is) (omega arith))
+    c.number_on.ensures.comes
+
+pub forms::form_on-returns-in-Str-clause-comes : goal.forms::form_on-returns-in-Str-clause-comes
+forms::form_on-returns-in-Str-clause-comes t c =
+    let fs = trees_of c.args.here.now.site.now.codes.now.items in
+    let w = c.args.here.now.site.now.widget in
+    let old = c.args.store.now in
+    let at = c.args.here.now.at in
+    let f = trees c.args.here.now.tree.now in
+    let g = forest_at fs at.code in
+    let pl = place_of w old.cells at in
+    let whole : State → Plan = body (job_of fs w old.cells (job.Eval c.args.id at)) in
+    IfOk-weaker c.text_on.result _ _
+    (λ h x. instead fs w old old 30 30 (expression (node.Str c.in-Str.text) pl) whole c.args.run.now c.args.run.now h _ (x c.args.run.now c.requires.ready.2)
+    (λ r. at_eval fs at.code f c.args.id c.expr.result.now c.requires.tree c.expr.ensures.same pl (image fs r w old)
+    ∙ ap (λ (e : Expr). expression (plain_form g e) pl (image fs r w old)) c.in-Str.is) (omega arith))
+    c.text_on.ensures.comes
+
+pub forms::form_on-returns-in-Word-clause-comes : goal.forms::form_on-returns-in-Word-clause-comes
+forms::form_on-returns-in-Word-clause-comes t c =
+    let fs = trees_of c.args.here.now.site.now.codes.now.items in
+    let w = c.args.here.now.site.now.widget in
+    let old = c.args.store.now in
+    let at = c.args.here.now.at in
+    let f = trees c.args.here.now.tree.now in
+    let g = forest_at fs at.code in
+    let pl = place_of w old.cells at in
+    let whole : State → Plan = body (job_of fs w old.cells (job.Eval c.args.id at)) in
+    IfOk-weaker c.word_on.result _ _
+    (λ h x. instead fs w old old 30 30 (expression (node.Constant c.in-Word.word) pl) whole c.args.run.now c.args.run.now h _ (x c.args.run.now c.requires.ready.2)
+    (λ r. at_eval fs at.code f c.args.id c.expr.result.now c.requires.tree c.expr.ensures.same pl (image fs r w old)
+    ∙ ap (λ (e : Expr). expression (plain_form g e) pl (image fs r w old)) c.in-Word.is) (omega arith))
+    c.word_on.ensures.comes
+
+pub forms::form_on-returns-in-Dot-clause-comes : goal.forms::form_on-returns-in-Dot-clause-comes
+forms::form_on-returns-in-Dot-clause-comes t c =
+    let fs = trees_of c.args.here.now.site.now.codes.now.items in
+    let w = c.args.here.now.site.now.widget in
+    let old = c.args.store.now in
+    let at = c.args.here.now.at in
+    let f = trees c.args.here.now.tree.now in
+    let g = forest_at fs at.code in
+    let pl = place_of w old.cells at in
+    let whole : State → Plan = body (job_of fs w old.cells (job.Eval c.args.id at)) in
+    let todo : State → Plan = λ s. Do (job_of fs w old.cells (job.Eval c.in-Dot.e at)) s (taken fs w old.cells (frame.Form (form.Dot c.in-Dot.name))) in
+    IfOk-weaker c.dot_on.result _ _
+    (λ h x. instead fs w old c.dot_on.new.store 30 30 todo whole c.args.run.now c.dot_on.new.run h _ x
+    (λ r. at_eval fs at.code f c.args.id c.expr.result.now c.requires.tree c.expr.ensures.same pl (image fs r w old)
+    ∙ ap (λ (e : Expr). expression (plain_form g e) pl (image fs r w old)) c.in-Dot.is) (omega arith))
+    c.dot_on.ensures.comes
+
+pub forms::form_on-returns-in-Binary-clause-comes : goal.forms::form_on-returns-in-Binary-clause-comes
+forms::form_on-returns-in-Binary-clause-comes t c =
+    let fs = trees_of c.args.here.now.site.now.codes.now.items in
+    let w = c.args.here.now.site.now.widget in
+    let old = c.args.store.now in
+    let at = c.args.here.now.at in
+    let f = trees c.args.here.now.tree.now in
+    let g = forest_at fs at.code in
+    let pl = place_of w old.cells at in
+    let whole : State → Plan = body (job_of fs w old.cells (job.Eval c.args.id at)) in
+    let todo : State → Plan = λ s. Do (job_of fs w old.cells (job.Eval c.in-Binary.a at)) s (taken fs w old.cells (frame.Form (form.Right c.in-Binary.op c.in-Binary.b at))) in
+    IfOk-weaker c.binary_on.result _ _
+    (λ h x. instead fs w old c.binary_on.new.store 30 30 todo whole c.args.run.now c.binary_on.new.run h _ x
+    (λ r. at_eval fs at.code f c.args.id c.expr.result.now c.requires.tree c.expr.ensures.same pl (image fs r w old)
+    ∙ ap (λ (e : Expr). expression (plain_form g e) pl (image fs r w old)) c.in-Binary.is) (omega arith))
+    c.binary_on.ensures.comes
+
+pub forms::form_on-returns-in-Call-clause-comes : goal.forms::form_on-returns-in-Call-clause-comes
+forms::form_on-returns-in-Call-clause-comes t c =
+    let fs = trees_of c.args.here.now.site.now.codes.now.items in
+    let w = c.args.here.now.site.now.widget in
+    let old = c.args.store.now in
+    let at = c.args.here.now.at in
+    let f = trees c.args.here.now.tree.now in
+    let g = forest_at fs at.code in
+    let pl = place_of w old.cells at in
+    let whole : State → Plan = body (job_of fs w old.cells (job.Eval c.args.id at)) in
+    let todo : State → Plan = λ s. Do (job_of fs w old.cells (job.Target c.in-Call.callee at)) s (taken fs w old.cells (frame.Call (call.Callee c.args.id at))) in
+    IfOk-weaker c.call_on.result _ _
+    (λ h x. instead fs w old c.call_on.new.store 30 30 todo whole c.args.run.now c.call_on.new.run h _ x
+    (λ r. at_eval fs at.code f c.args.id c.expr.result.now c.requires.tree c.expr.ensures.same pl (image fs r w old)
+    ∙ ap (λ (e : Expr). expression (plain_form g e) pl (image fs r w old)) c.in-Call.is) (omega arith))
+    c.call_on.ensures.comes
+
+pub forms::form_on-returns-in-Assign-clause-comes : goal.forms::form_on-returns-in-Assign-clause-comes
+forms::form_on-returns-in-Assign-clause-comes t c =
+    let fs = trees_of c.args.here.now.site.now.codes.now.items in
+    let w = c.args.here.now.site.now.widget in
+    let old = c.args.store.now in
+    let at = c.args.here.now.at in
+    let f = trees c.args.here.now.tree.now in
+    let g = forest_at fs at.code in
+    let pl = place_of w old.cells at in
+    let whole : State → Plan = body (job_of fs w old.cells (job.Eval c.args.id at)) in
+    let todo : State → Plan = λ s. Do (job_of fs w old.cells (job.Target c.in-Assign.to at)) s (taken fs w old.cells (frame.Form (form.AssignTarget c.in-Assign.op c.in-Assign.e at))) in
+    IfOk-weaker c.assign_on.result _ _
+    (λ h x. instead fs w old c.assign_on.new.store 30 30 todo whole c.args.run.now c.assign_on.new.run h _ x
+    (λ r. at_eval fs at.code f c.args.id c.expr.result.now c.requires.tree c.expr.ensures.same pl (image fs r w old)
+    ∙ ap (λ (e : Expr). expression (plain_form g e) pl (image fs r w old)) c.in-Assign.is) (omega arith))
+    c.assign_on.ensures.comes
+
+pub forms::form_on-returns-in-Step-clause-comes : goal.forms::form_on-returns-in-Step-clause-comes
+forms::form_on-returns-in-Step-clause-comes t c =
+    let fs = trees_of c.args.here.now.site.now.codes.now.items in
+    let w = c.args.here.now.site.now.widget in
+    let old = c.args.store.now in
+    let at = c.args.here.now.at in
+    let f = trees c.args.here.now.tree.now in
+    let g = forest_at fs at.code in
+    let pl = place_of w old.cells at in
+    let whole : State → Plan = body (job_of fs w old.cells (job.Eval c.args.id at)) in
+    let todo : State → Plan = λ s. Do (job_of fs w old.cells (job.Target c.in-Step.to at)) s (taken fs w old.cells (frame.Form (form.StepTarget c.in-Step.op at))) in
+    IfOk-weaker c.step_on.result _ _
+    (λ h x. instead fs w old c.step_on.new.store 30 30 todo whole c.args.run.now c.step_on.new.run h _ x
+    (λ r. at_eval fs at.code f c.args.id c.expr.result.now c.requires.tree c.expr.ensures.same pl (image fs r w old)
+    ∙ ap (λ (e : Expr). expression (plain_form g e) pl (image fs r w old)) c.in-Step.is) (omega arith))
+    c.step_on.ensures.comes
+
+pub forms::form_on-returns-in-Sub-clause-comes : goal.forms::form_on-returns-in-Sub-clause-comes
+forms::form_on-returns-in-Sub-clause-comes t c =
+    let fs = trees_of c.args.here.now.site.now.codes.now.items in
+    let w = c.args.here.now.site.now.widget in
+    let old = c.args.store.now in
+    let at = c.args.here.now.at in
+    let f = trees c.args.here.now.tree.now in
+    let g = forest_at fs at.code in
+    let pl = place_of w old.cells at in
+    let whole : State → Plan = body (job_of fs w old.cells (job.Eval c.args.id at)) in
+    let todo : State → Plan = λ s. Do (job_of fs w old.cells (job.Eval c.in-Sub.e at)) s (taken fs w old.cells (frame.Form (form.SubBase c.in-Sub.index at))) in
+    IfOk-weaker c.sub_on.result _ _
+    (λ h x. instead fs w old c.sub_on.new.store 30 30 todo whole c.args.run.now c.sub_on.new.run h _ x
+    (λ r. at_eval fs at.code f c.args.id c.expr.result.now c.requires.tree c.expr.ensures.same pl (image fs r w old)
+    ∙ ap (λ (e : Expr). expression (plain_form g e) pl (image fs r w old)) c.in-Sub.is) (omega arith))
+    c.sub_on.ensures.comes
+
+pub forms::form_on-returns-in-And-clause-comes : goal.forms::form_on-returns-in-And-clause-comes
+forms::form_on-returns-in-And-clause-comes t c =
+    let fs = trees_of c.args.here.now.site.now.codes.now.items in
+    let w = c.args.here.now.site.now.widget in
+    let old = c.args.store.now in
+    let at = c.args.here.now.at in
+    let f = trees c.args.here.now.tree.now in
+    let g = forest_at fs at.code in
+    let pl = place_of w old.cells at in
+    let whole : State → Plan = body (job_of fs w old.cells (job.Eval c.args.id at)) in
+    let todo : State → Plan = λ s. Do (job_of fs w old.cells (job.Eval c.in-And.a at)) s (taken fs w old.cells (frame.Form (form.And c.in-And.b at))) in
+    IfOk-weaker c.and_on.result _ _
+    (λ h x. instead fs w old c.and_on.new.store 30 30 todo whole c.args.run.now c.and_on.new.run h _ x
+    (λ r. at_eval fs at.code f c.args.id c.expr.result.now c.requires.tree c.expr.ensures.same pl (image fs r w old)
+    ∙ ap (λ (e : Expr). expression (plain_form g e) pl (image fs r w old)) c.in-And.is) (omega arith))
+    c.and_on.ensures.comes
+
+pub forms::form_on-returns-in-Or-clause-comes : goal.forms::form_on-returns-in-Or-clause-comes
+forms::form_on-returns-in-Or-clause-comes t c =
+    let fs = trees_of c.args.here.now.site.now.codes.now.items in
+    let w = c.args.here.now.site.now.widget in
+    let old = c.args.store.now in
+    let at = c.args.here.now.at in
+    let f = trees c.args.here.now.tree.now in
+    let g = forest_at fs at.code in
+    let pl = place_of w old.cells at in
+    let whole : State → Plan = body (job_of fs w old.cells (job.Eval c.args.id at)) in
+    let todo : State → Plan = λ s. Do (job_of fs w old.cells (job.Eval c.in-Or.a at)) s (taken fs w old.cells (frame.Form (form.Or c.in-Or.b at))) in
+    IfOk-weaker c.or_on.result _ _
+    (λ h x. instead fs w old c.or_on.new.store 30 30 todo whole c.args.run.now c.or_on.new.run h _ x
+    (λ r. at_eval fs at.code f c.args.id c.expr.result.now c.requires.tree c.expr.ensures.same pl (image fs r w old)
+    ∙ ap (λ (e : Expr). expression (plain_form g e) pl (image fs r w old)) c.in-Or.is) (omega arith))
+    c.or_on.ensures.comes
+
+pub forms::form_on-returns-in-Cond-clause-comes : goal.forms::form_on-returns-in-Cond-clause-comes
+forms::form_on-returns-in-Cond-clause-comes t c =
+    let fs = trees_of c.args.here.now.site.now.codes.now.items in
+    let w = c.args.here.now.site.now.widget in
+    let old = c.args.store.now in
+    let at = c.args.here.now.at in
+    let f = trees c.args.here.now.tree.now in
+    let g = forest_at fs at.code in
+    let pl = place_of w old.cells at in
+    let whole : State → Plan = body (job_of fs w old.cells (job.Eval c.args.id at)) in
+    let todo : State → Plan = λ s. Do (job_of fs w old.cells (job.Eval c.in-Cond.a at)) s (taken fs w old.cells (frame.Form (form.Choose c.in-Cond.b c.in-Cond.c at))) in
+    IfOk-weaker c.choose_on.result _ _
+    (λ h x. instead fs w old c.choose_on.new.store 30 30 todo whole c.args.run.now c.choose_on.new.run h _ x
+    (λ r. at_eval fs at.code f c.args.id c.expr.result.now c.requires.tree c.expr.ensures.same pl (image fs r w old)
+    ∙ ap (λ (e : Expr). expression (plain_form g e) pl (image fs r w old)) c.in-Cond.is) (omega arith))
+    c.choose_on.ensures.comes
+
+pub forms::form_on-returns-in-Function-clause-comes : goal.forms::form_on-returns-in-Function-clause-comes
+forms::form_on-returns-in-Function-clause-comes t c =
+    let fs = trees_of c.args.here.now.site.now.codes.now.items in
+    let w = c.args.here.now.site.now.widget in
+    let old = c.args.store.now in
+    let at = c.args.here.now.at in
+    let f = trees c.args.here.now.tree.now in
+    let g = forest_at fs at.code in
+    let pl = place_of w old.cells at in
+    let whole : State → Plan = body (job_of fs w old.cells (job.Eval c.args.id at)) in
+    let todo : State → Plan = expression (node.Function (fun_at g c.in-Function.fun)) pl in
+    IfOk-weaker c.function_on.result _ _
+    (λ h x. instead fs w old c.function_on.new.store 30 30 todo whole c.args.run.now c.function_on.new.run h _ x
+    (λ r. at_eval fs at.code f c.args.id c.expr.result.now c.requires.tree c.expr.ensures.same pl (image fs r w old)
+    ∙ ap (λ (e : Expr). expression (plain_form g e) pl (image fs r w old)) c.in-Function.is) (omega arith))
+    c.function_on.ensures.comes
+
+pub forms::form_on-returns-in-Array-clause-comes : goal.forms::form_on-returns-in-Array-clause-comes
+forms::form_on-returns-in-Array-clause-comes t c =
+    let fs = trees_of c.args.here.now.site.now.codes.now.items in
+    let w = c.args.here.now.site.now.widget in
+    let old = c.args.store.now in
+    let at = c.args.here.now.at in
+    let f = trees c.args.here.now.tree.now in
+    let g = forest_at fs at.code in
+    let pl = place_of w old.cells at in
+    let whole : State → Plan = body (job_of fs w old.cells (job.Eval c.args.id at)) in
+    let i = expr_at g c.args.id in
+    let made : Tree → State → Plan = λ e s. make (new_array 0 []) 0 s (λ a t. array_parts a 0 (elements_of e) pl t) in
+    IfOk-weaker c.array_on.result _ _
+    (λ h x. instead fs w old c.array_on.new.store 30 30 (made i) whole c.args.run.now c.array_on.new.run h _ x
+    (λ r. at_eval fs at.code f c.args.id c.expr.result.now c.requires.tree c.expr.ensures.same pl (image fs r w old)
+    ∙ ap (λ (e : Expr). expression (plain_form g e) pl (image fs r w old)) c.in-Array.is
+    ∙ ap (λ (e : Tree). made e (image fs r w old)) (ap (λ (n : Expr). plain_expr g n (expr_place i) (expr_names i)) (sym c.in-Array.is)
+    ∙ node_same fs at.code f c.args.id c.expr.result.now c.requires.tree c.expr.ensures.same)) (omega arith))
+    c.array_on.ensures.comes
+
+pub forms::form_on-returns-in-Object-clause-comes : goal.forms::form_on-returns-in-Object-clause-comes
+forms::form_on-returns-in-Object-clause-comes t c =
+    let fs = trees_of c.args.here.now.site.now.codes.now.items in
+    let w = c.args.here.now.site.now.widget in
+    let old = c.args.store.now in
+    let at = c.args.here.now.at in
+    let f = trees c.args.here.now.tree.now in
+    let g = forest_at fs at.code in
+    let pl = place_of w old.cells at in
+    let whole : State → Plan = body (job_of fs w old.cells (job.Eval c.args.id at)) in
+    let i = expr_at g c.args.id in
+    let made : Tree → State → Plan = λ e s. make (plain_object []) 0 s (λ a t. object_parts a (properties_of e) pl t) in
+    IfOk-weaker c.object_on.result _ _
+    (λ h x. instead fs w old c.object_on.new.store 30 30 (made i) whole c.args.run.now c.object_on.new.run h _ x
+    (λ r. at_eval fs at.code f c.args.id c.expr.result.now c.requires.tree c.expr.ensures.same pl (image fs r w old)
+    ∙ ap (λ (e : Expr). expression (plain_form g e) pl (image fs r w old)) c.in-Object.is
+    ∙ ap (λ (e : Tree). made e (image fs r w old)) (ap (λ (n : Expr). plain_expr g n (expr_place i) (expr_names i)) (sym c.in-Object.is)
+    ∙ node_same fs at.code f c.args.id c.expr.result.now c.requires.tree c.expr.ensures.same)) (omega arith))
+    c.object_on.ensures.comes
+
 pub forms::unary_form-returns-then-takes_target-clause-comes : goal.forms::unary_form-returns-then-takes_target-clause-comes
 forms::unary_form-returns-then-takes_target-clause-comes t c =
     let fs = trees_of c.args.here.now.site.now.codes.now.items in
@@ -5113,6 +5388,42 @@ statements::declarations_on-returns-in_default-2 t c =
           (planned fs w s1 s2 1 q _ c.list.run c.eval_on.new.run how (ended_as how out) plan (other_value fs w s1 s2 0 1 p f (λ v t. declared (drop at ds) (place_of w s2.cells c.args.here.now.at) v t) c.list.run c.eval_on.new.run how out c.in_ok-how.ensures.comes c.in_default-2.not-Is c.in_default-2.not-Left kept.grows inv.2 (λ o t. refl) (omega arith))) (omega arith);
       kept = kept_then fs w s0 s1 s2 inv.1 kept;
     }
+
+pub statements::statement_on-returns-in-For-Var-default-default-default-clause-comes : goal.statements::statement_on-returns-in-For-Var-default-default-default-clause-comes
+statements::statement_on-returns-in-For-Var-default-default-default-clause-comes t c =
+    let fs = trees_of c.args.here.now.site.now.codes.now.items in
+    let w = c.args.here.now.site.now.widget in
+    let old = c.args.store.now in
+    let at = c.args.here.now.at in
+    let f = forest_at fs at.code in
+    let pl = place_of w old.cells at in
+    let i = stmt_at f c.args.id in
+    let whole : StmtNode → Stmt = λ n. plain_stmt f n (stmt_place i) (stmt_names i) in
+    let parts : Stmt → State → Plan = λ u s. and_then (statements_2.declarations (decls_of u) pl s) (loop_again (loop_of u) pl) in
+    let todo : State → Plan = λ s. and_then (statements_2.declarations (decls_of (stmt_at f c.args.id)) pl s) (taken fs w old.cells (frame.Statement (statement.ForAgain c.args.id at))) in
+    IfOk-weaker c.declared_on.result _ _
+    (λ h x. instead fs w old c.declared_on.new.store 30 30 todo (statements_2.statement (plain_stmt_form f c.args.node.now) pl) c.args.run.now c.declared_on.new.run h _ x
+    (λ r. ap (λ (n : StmtNode). statements_2.statement (plain_stmt_form f n) pl (image fs r w old)) c.in-For-Var-default-default-default.is
+    ∙ ap (λ (u : Stmt). parts u (image fs r w old)) (ap whole (sym c.in-For-Var-default-default-default.is) ∙ c.requires.node)) (omega arith))
+    c.declared_on.ensures.comes
+
+pub statements::statement_on-returns-in-For-List-default-default-default-clause-comes : goal.statements::statement_on-returns-in-For-List-default-default-default-clause-comes
+statements::statement_on-returns-in-For-List-default-default-default-clause-comes t c =
+    let fs = trees_of c.args.here.now.site.now.codes.now.items in
+    let w = c.args.here.now.site.now.widget in
+    let old = c.args.store.now in
+    let at = c.args.here.now.at in
+    let f = forest_at fs at.code in
+    let pl = place_of w old.cells at in
+    let i = stmt_at f c.args.id in
+    let whole : StmtNode → Stmt = λ n. plain_stmt f n (stmt_place i) (stmt_names i) in
+    let parts : Stmt → State → Plan = λ u s. and_then (statements_2.expressions (first_of u) pl s) (loop_again (loop_of u) pl) in
+    let todo : State → Plan = λ s. and_then (statements_2.expressions (part_of part.First (stmt_at f c.args.id)) pl s) (taken fs w old.cells (frame.Statement (statement.ForAgain c.args.id at))) in
+    IfOk-weaker c.listed_on.result _ _
+    (λ h x. instead fs w old c.listed_on.new.store 30 30 todo (statements_2.statement (plain_stmt_form f c.args.node.now) pl) c.args.run.now c.listed_on.new.run h _ x
+    (λ r. ap (λ (n : StmtNode). statements_2.statement (plain_stmt_form f n) pl (image fs r w old)) c.in-For-List-default-default-default.is
+    ∙ ap (λ (u : Stmt). parts u (image fs r w old)) (ap whole (sym c.in-For-List-default-default-default.is) ∙ c.requires.node)) (omega arith))
+    c.listed_on.ensures.comes
 
 pub stepping::step_on-returns-in-Name-clause-comes : goal.stepping::step_on-returns-in-Name-clause-comes
 stepping::step_on-returns-in-Name-clause-comes t c =

@@ -1,22 +1,15 @@
-use Rattle.std.proofs.Common.{Bool, ap, arith, refl, true, ◌∙◌, ◌≡◌}
-use Rattle.std.proofs.lemmas.Result.{IfOk-weaker}
-use Rattle.widget_meaning.specs.OwnState.{State}
-use Rattle.widget_meaning.specs.Plan.{Plan}
-use Rattle.js_image.specs.Image.{Rest, image}
-use Rattle.js_image.proofs.Units.{kept_then}
-use Rattle.js_names.specs.Code.{trees_of}
-use Rattle.js_flow.specs.Views.{reference_of}
-use Rattle.js_direct.proofs.Parts.{gives}
-use Rattle.js_direct.specs.Comes.{ended_as}
-use Rattle.js_direct.proofs.FormFrames.{after_store}
-use Rattle.widget_meaning.specs.Costs.{give}
-use Rattle.widget_meaning.specs.Expressions.{delete_at}
-use Rattle.js_image.specs.Plans.{meant_fault, removed_plan}
-use Rattle.store_cells.specs.declared.value.Value.TheVariants as value
+use Rattle.std.specs.Prelude.{IfOk}
+use Rattle.std.proofs.Common.{ap, arith, refl, subst, sym, true}
 use Rattle.widget_meaning.specs.Values as meaning
-use Rattle.js_direct.specs.declared.run.Ended.TheVariants as ended
-use Rattle.widget_meaning.specs.Costs as costs
+use Rattle.widget_meaning.specs.Expressions.{delete_at}
+use Rattle.store_cells.specs.declared.value.Value.TheVariants as value
+use Rattle.js_image.specs.Image.{image, seen}
+use Rattle.js_names.specs.Code.{trees_of}
 use Rattle.js_flow.specs.declared.job.Completion.TheVariants as completion
+use Rattle.js_flow.specs.Views.{reference_of}
+use Rattle.js_direct.specs.declared.run.Ended.TheVariants as ended
+use Rattle.js_direct.specs.Comes.{Comes}
+use Rattle.js_direct.proofs.Parts.{gives}
 use Rattle.js_direct.proofs.targets.remove_on.Goals as goal
 
 pub returns-in-Variable-clause-comes : goal.returns-in-Variable-clause-comes
@@ -44,4 +37,12 @@ returns-in-Property-clause-comes c =
     (sym c.in-Property.is) c.remove_named.ensures.comes
 
 pub returns-in-Element-clause-comes : goal.returns-in-Element-clause-comes
-returns-in-Element-clause-comes c = ?
+returns-in-Element-clause-comes c =
+    let fs = trees_of c.args.site.now.codes.now.items in
+    let w = c.args.site.now.widget in
+    let old = c.args.store.now in
+    let had = c.args.run.now in
+    subst (λ q. IfOk c.remove_named-2.result (λ h. Comes fs w old c.remove_named-2.new.store 1 (delete_at (reference_of w old.cells q)) had c.remove_named-2.new.run h c.remove_named-2.new.out))
+    (sym c.in-Element.is)
+    (subst (λ d. IfOk c.remove_named-2.result (λ h. Comes fs w old c.remove_named-2.new.store 1 (delete_at (meaning.Property (seen w old.cells (value.Ref c.in-Element.cell)) d)) had c.remove_named-2.new.run h c.remove_named-2.new.out))
+    c.in_ok-name-in-Element.ensures c.remove_named-2.ensures.comes)
