@@ -2727,11 +2727,14 @@ forms::form_on-returns-in-Call-clause-comes t c =
     let g = forest_at fs at.code in
     let pl = place_of w old.cells at in
     let whole : State → Plan = body (job_of fs w old.cells (job.Eval c.args.id at)) in
-    let todo : State → Plan = λ s. Do (job_of fs w old.cells (job.Target c.in-Call.callee at)) s (taken fs w old.cells (frame.Call (call.Callee c.args.id at))) in
+    let i = expr_at g c.args.id in
+    let asked : Tree → State → Plan = λ e s. Do (plan.Target (expr_at g c.in-Call.callee) pl) s (callee (arguments_of e) pl) in
     IfOk-weaker c.call_on.result _ _
-    (λ h x. instead fs w old c.call_on.new.store 30 30 todo whole c.args.run.now c.call_on.new.run h _ x
+    (λ h x. instead fs w old c.call_on.new.store 30 30 (asked i) whole c.args.run.now c.call_on.new.run h _ x
     (λ r. at_eval fs at.code f c.args.id c.expr.result.now c.requires.tree c.expr.ensures.same pl (image fs r w old)
-    ∙ ap (λ (e : Expr). expression (plain_form g e) pl (image fs r w old)) c.in-Call.is) (omega arith))
+    ∙ ap (λ (e : Expr). expression (plain_form g e) pl (image fs r w old)) c.in-Call.is
+    ∙ ap (λ (e : Tree). asked e (image fs r w old)) (ap (λ (n : Expr). plain_expr g n (expr_place i) (expr_names i)) (sym c.in-Call.is)
+    ∙ node_same fs at.code f c.args.id c.expr.result.now c.requires.tree c.expr.ensures.same)) (omega arith))
     c.call_on.ensures.comes
 
 pub forms::form_on-returns-in-Assign-clause-comes : goal.forms::form_on-returns-in-Assign-clause-comes
