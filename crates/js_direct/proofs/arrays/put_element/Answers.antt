@@ -47,11 +47,11 @@ returns-in-Throw-clause-comes c =
     x (omega arith))
     c.throw.ensures.comes
 
-pub returns-clause-done : goal.returns-clause-done
-returns-clause-done c = IfOk-weaker c.stop.result _ _ (λ h x t. absurd (left_no_value h x t)) c.stop.ensures.left
+pub returns-in-Stop-clause-done : goal.returns-in-Stop-clause-done
+returns-in-Stop-clause-done c = IfOk-weaker c.stop.result _ _ (λ h x t. absurd (left_no_value h x t)) c.stop.ensures.left
 
-pub returns-clause-comes : goal.returns-clause-comes
-returns-clause-comes c =
+pub returns-in-Stop-clause-comes : goal.returns-in-Stop-clause-comes
+returns-in-Stop-clause-comes c =
     let fs = trees_of c.args.site.now.codes.now.items in
     let w = c.args.site.now.widget in
     let old = c.args.store.now in

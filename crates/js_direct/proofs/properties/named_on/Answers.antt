@@ -33,3 +33,12 @@ returns-in_ok-share_to-in-Some c =
           (c.indexed_at.ensures.fine fs w c.requires.ready.1 fine) (omega arith);
       kept = kept_same fs w s s refl;
     }
+
+pub indexed_at-requires-clause-within : goal.indexed_at-requires-clause-within
+indexed_at-requires-clause-within c =
+    let w = c.args.site.now.widget in
+    let s = c.args.store.now in
+    (subst (λ (x : Value). IsFine w s.cells x) c.in-Some.ensures.0 c.requires.held.0).0
+
+pub indexed_at-requires-clause-index : goal.indexed_at-requires-clause-index
+indexed_at-requires-clause-index c = c.in-Some.ensures.2

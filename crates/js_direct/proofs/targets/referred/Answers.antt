@@ -36,3 +36,15 @@ returns-in-Element-clause-fine c =
     let s = c.args.store.now in
     let to = subst (λ (q : Reference). FineReference w s.cells q) c.in-Element.is c.requires.held.0 in
     IfOk-weaker c.indexed_value.result _ _ (λ v h. h fs w c.requires.confined to.0) c.indexed_value.ensures.fine
+
+pub indexed_value-requires-clause-within : goal.indexed_value-requires-clause-within
+indexed_value-requires-clause-within c =
+    let w = c.args.here.now.site.now.widget in
+    let s = c.args.store.now in
+    (subst (λ (q : Reference). FineReference w s.cells q) c.in-Element.is c.requires.held.0).0.0
+
+pub indexed_value-requires-clause-index : goal.indexed_value-requires-clause-index
+indexed_value-requires-clause-index c =
+    let w = c.args.here.now.site.now.widget in
+    let s = c.args.store.now in
+    (subst (λ (q : Reference). FineReference w s.cells q) c.in-Element.is c.requires.held.0).1
