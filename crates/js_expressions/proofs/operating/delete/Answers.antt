@@ -19,8 +19,8 @@ returns-in-Property-clause-plan c =
     (λ n h r. h r ∙ sym (ap (λ q. expressions.delete_at (reference_of w old.cells q) (image fs r w old)) c.in-Property.is))
     c.delete_named.ensures.plan
 
-pub delete_named-requires-clause-held-2 : goal.delete_named-requires-clause-held-2
-delete_named-requires-clause-held-2 c =
+pub delete_named-requires-in-Element-clause-held : goal.delete_named-requires-in-Element-clause-held
+delete_named-requires-in-Element-clause-held c =
     let w = c.args.w in
     let old = c.args.store.now in
     (subst (λ (q : Reference). FineReference w old.cells q) c.in-Element.is c.requires.held).0
@@ -30,7 +30,7 @@ returns-in-Element-clause-plan c =
     let fs = trees_of c.args.codes.now.items in
     let w = c.args.w in
     let old = c.args.store.now in
-    IfOk-weaker c.delete_named-2.result _ _
+    IfOk-weaker c.delete_named-in-Element.result _ _
     (λ n h r. h r ∙ ((λ i. expressions.delete_at (meaning.Property (seen w old.cells (value.Ref c.in-Element.cell)) (c.in_ok-name-in-Element.ensures i)) (image fs r w old))
     ∙ sym (ap (λ q. expressions.delete_at (reference_of w old.cells q) (image fs r w old)) c.in-Element.is)))
-    c.delete_named-2.ensures.plan
+    c.delete_named-in-Element.ensures.plan
