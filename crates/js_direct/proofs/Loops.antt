@@ -12,13 +12,14 @@ use Rattle.widget_meaning.specs.Values.{Continue, Normal}
 use Rattle.widget_meaning.specs.Plan as plan
 use Rattle.widget_meaning.specs.Plan.{DoLoop, ForInLoop, ForLoop, Loop, WhileLoop, and_then, on_normal, on_value}
 use Rattle.widget_meaning.specs.Calls.{statements}
-use Rattle.widget_meaning.specs.Statements.{expressions, loop_end, pass}
+use Rattle.widget_meaning.specs.Meaning.{body}
+use Rattle.widget_meaning.specs.Statements.{declarations, expressions, loop_end, pass}
 use Rattle.js_flow.specs.declared.frame.Frame.TheVariants as frame
 use Rattle.js_flow.specs.declared.job.Place.{Place}
 use Rattle.js_flow.specs.Fine.{FineFrame, IsStmtAt}
 use Rattle.js_flow.specs.Frames.{taken}
 use Rattle.js_flow.specs.Free.{frame_free}
-use Rattle.js_flow.specs.Parts.{forest_at, last_of, loop_body, loop_of}
+use Rattle.js_flow.specs.Parts.{decls_of, first_of, forest_at, last_of, loop_body, loop_of}
 use Rattle.js_flow.specs.Statements.{loop_again, loop_next}
 use Rattle.js_flow.specs.Views.{place_of}
 use Rattle.js_direct.specs.declared.statements.After.{After}
@@ -142,3 +143,30 @@ loop_other (WhileLoop e b) p o s = refl
 loop_other (DoLoop b e) p o s = refl
 loop_other (ForLoop test next b) p o s = refl
 loop_other (ForInLoop v x y ys b) p o s = refl
+
+-- ## The two kinds of a `for`
+
+-- its first part is a list of declarations
+abbrev pub IsDecls : tree.ForInit → Type 0
+IsDecls (tree.DeclsFirst ds) = Unit {0}
+IsDecls (tree.ExprsFirst es) = ⊥
+
+-- or of expressions
+abbrev pub IsExprs : tree.ForInit → Type 0
+IsExprs (tree.DeclsFirst ds) = ⊥
+IsExprs (tree.ExprsFirst es) = Unit {0}
+
+-- a `for` with such a first part
+abbrev pub IsForWith : (tree.ForInit → Type 0) → Stmt → Type 0
+IsForWith P (tree.StmtAt at names (tree.For first test next b)) = P first
+IsForWith P _ = ⊥
+
+pub for_declared : (i : Stmt) (p : plan.Place) (s : State) → IsForWith IsDecls i → body (plan.Exec i p) s ≡ and_then (declarations (decls_of i) p s) (loop_again (loop_of i) p)
+for_declared (tree.StmtAt at names (tree.For (tree.DeclsFirst ds) test next b)) p s h = refl
+for_declared (tree.StmtAt at names (tree.For (tree.ExprsFirst es) test next b)) p s h = absurd h
+for_declared _ p s h = absurd h
+
+pub for_listed : (i : Stmt) (p : plan.Place) (s : State) → IsForWith IsExprs i → body (plan.Exec i p) s ≡ and_then (expressions (first_of i) p s) (loop_again (loop_of i) p)
+for_listed (tree.StmtAt at names (tree.For (tree.DeclsFirst ds) test next b)) p s h = absurd h
+for_listed (tree.StmtAt at names (tree.For (tree.ExprsFirst es) test next b)) p s h = refl
+for_listed _ p s h = absurd h

@@ -20,7 +20,7 @@ use Rattle.widget_meaning.specs.Scopes as scopes
 use Rattle.js_direct.proofs.+direct.Goals as goal
 use Rattle.std.proofs.Common.{Bool, List, None, [], ap, arith, drop, if◌then◌else◌, length, refl, rules, subst, suc, sym, true, ℕ, ◌++◌, ◌+◌, ◌-◌, ◌<◌, ◌∙◌, ◌∷◌, ◌≡◌}
 use Rattle.std.proofs.lemmas.Result.{IfOk-weaker}
-use Rattle.js_tree.specs.Forest.{Forest, IsStmt, expr_at, fun_at, plain_expr, plain_form, plain_stmt, plain_stmt_form, stmt_at}
+use Rattle.js_tree.specs.Forest.{Forest, IsStmt, expr_at, fun_at, init_at, plain_expr, plain_form, plain_stmt, plain_stmt_form, stmt_at}
 use Rattle.js_tree.specs.declared.nodes.Stmt.{Stmt as StmtNode}
 use Rattle.widget_meaning.specs.Costs.{make, pay, scope_cost, throw}
 use Rattle.widget_meaning.specs.Expressions.{arguments_then, array_parts, assign_with, base_of, callee, expression, object_parts, refer, target}
@@ -31,7 +31,7 @@ use Rattle.js_image.specs.Image.{Rest, all_seen, function_in, image, no_rest, se
 use Rattle.js_image.specs.Plans.{IsScopeMade, made_plan, meant_cause, scope_of, scope_plan}
 use Rattle.js_image.proofs.Units.{kept_then}
 use Rattle.js_names.specs.Code.{trees_of}
-use Rattle.js_flow.specs.Parts.{HasStmt, IsBlock, arguments_of, block_list, catch_body, catch_of, clauses_of, decls_of, elements_of, else_of, finally_body, finally_of, first_of, forest_at, loop_body, loop_of, properties_of, then_of, variable_of}
+use Rattle.js_flow.specs.Parts.{HasStmt, IsBlock, arguments_of, block_list, catch_body, catch_of, clauses_of, decls_of, elements_of, else_of, finally_body, finally_of, forest_at, loop_body, loop_of, properties_of, then_of, variable_of}
 use Rattle.js_flow.specs.Views.{completion_of, for_in_loop, job_of, name_at, place_of, reference_of}
 use Rattle.js_flow.proofs.Stays.{completion_fine, completion_same, place_fine, place_same, reference_fine, reference_same}
 use Rattle.js_direct.proofs.Lists.{before_then, goes_both, goes_then, left_no_value, part_goes}
@@ -67,7 +67,8 @@ use Rattle.widget_meaning.specs.Meaning.{body}
 use Rattle.widget_meaning.proofs.Runs.{and_then_ret}
 use Rattle.js_direct.specs.Towards.{Passes, Towards, frame_after, frame_in, part_of}
 use Rattle.js_direct.specs.declared.run.Run.{Run}
-use Rattle.js_direct.proofs.Loops.{after_fine, after_free, after_taken, again_normal, loop_broken, loop_other, part_fine, part_free, part_taken, pass_is}
+use Rattle.js_tree.specs.declared.nodes.ForInit.{ForInit as InitNode}
+use Rattle.js_direct.proofs.Loops.{IsDecls, IsExprs, IsForWith, after_fine, after_free, after_taken, again_normal, for_declared, for_listed, loop_broken, loop_other, part_fine, part_free, part_taken, pass_is}
 use Rattle.js_image.proofs.Hosts.{entry_link}
 use Rattle.widget_meaning.specs.Statements.{bodies, branch, caught, choose_case, finally, for_in, for_in_next, for_in_over, from_default, in_catch, last_end, switch_end}
 use Rattle.js_direct.proofs.Rarer.{caught_passes, charge_paid, charge_waits, clause_passes, end_waits, names_next, one_name, then_gives}
@@ -5402,12 +5403,13 @@ statements::statement_on-returns-in-For-Var-default-default-default-clause-comes
     let pl = place_of w old.cells at in
     let i = stmt_at f c.args.id in
     let whole : StmtNode → Stmt = λ n. plain_stmt f n (stmt_place i) (stmt_names i) in
-    let parts : Stmt → State → Plan = λ u s. and_then (statements_2.declarations (decls_of u) pl s) (loop_again (loop_of u) pl) in
-    let todo : State → Plan = λ s. and_then (statements_2.declarations (decls_of (stmt_at f c.args.id)) pl s) (taken fs w old.cells (frame.Statement (statement.ForAgain c.args.id at))) in
+    let kind : IsForWith IsDecls i = subst (λ (u : Stmt). IsForWith IsDecls u) c.requires.node
+        (subst (λ (n : StmtNode). IsForWith IsDecls (whole n)) (sym c.in-For-Var-default-default-default.is)
+        (subst (λ (q : InitNode). IsDecls (init_at f q)) (sym c.in-For-Var-default-default-default.field-0-is) tt)) in
+    let todo : State → Plan = λ s. and_then (statements_2.declarations (decls_of i) pl s) (taken fs w old.cells (frame.Statement (statement.ForAgain c.args.id at))) in
     IfOk-weaker c.declared_on.result _ _
     (λ h x. instead fs w old c.declared_on.new.store 30 30 todo (statements_2.statement (plain_stmt_form f c.args.node.now) pl) c.args.run.now c.declared_on.new.run h _ x
-    (λ r. ap (λ (n : StmtNode). statements_2.statement (plain_stmt_form f n) pl (image fs r w old)) c.in-For-Var-default-default-default.is
-    ∙ ap (λ (u : Stmt). parts u (image fs r w old)) (ap whole (sym c.in-For-Var-default-default-default.is) ∙ c.requires.node)) (omega arith))
+    (λ r. ap (λ (u : Stmt). body (plan.Exec u pl) (image fs r w old)) c.requires.node ∙ for_declared i pl (image fs r w old) kind) (omega arith))
     c.declared_on.ensures.comes
 
 pub statements::statement_on-returns-in-For-List-default-default-default-clause-comes : goal.statements::statement_on-returns-in-For-List-default-default-default-clause-comes
@@ -5420,12 +5422,13 @@ statements::statement_on-returns-in-For-List-default-default-default-clause-come
     let pl = place_of w old.cells at in
     let i = stmt_at f c.args.id in
     let whole : StmtNode → Stmt = λ n. plain_stmt f n (stmt_place i) (stmt_names i) in
-    let parts : Stmt → State → Plan = λ u s. and_then (statements_2.expressions (first_of u) pl s) (loop_again (loop_of u) pl) in
-    let todo : State → Plan = λ s. and_then (statements_2.expressions (part_of part.First (stmt_at f c.args.id)) pl s) (taken fs w old.cells (frame.Statement (statement.ForAgain c.args.id at))) in
+    let kind : IsForWith IsExprs i = subst (λ (u : Stmt). IsForWith IsExprs u) c.requires.node
+        (subst (λ (n : StmtNode). IsForWith IsExprs (whole n)) (sym c.in-For-List-default-default-default.is)
+        (subst (λ (q : InitNode). IsExprs (init_at f q)) (sym c.in-For-List-default-default-default.field-0-is) tt)) in
+    let todo : State → Plan = λ s. and_then (statements_2.expressions (part_of part.First i) pl s) (taken fs w old.cells (frame.Statement (statement.ForAgain c.args.id at))) in
     IfOk-weaker c.listed_on.result _ _
     (λ h x. instead fs w old c.listed_on.new.store 30 30 todo (statements_2.statement (plain_stmt_form f c.args.node.now) pl) c.args.run.now c.listed_on.new.run h _ x
-    (λ r. ap (λ (n : StmtNode). statements_2.statement (plain_stmt_form f n) pl (image fs r w old)) c.in-For-List-default-default-default.is
-    ∙ ap (λ (u : Stmt). parts u (image fs r w old)) (ap whole (sym c.in-For-List-default-default-default.is) ∙ c.requires.node)) (omega arith))
+    (λ r. ap (λ (u : Stmt). body (plan.Exec u pl) (image fs r w old)) c.requires.node ∙ for_listed i pl (image fs r w old) kind) (omega arith))
     c.listed_on.ensures.comes
 
 pub stepping::step_on-returns-in-Name-clause-comes : goal.stepping::step_on-returns-in-Name-clause-comes
