@@ -5404,8 +5404,8 @@ statements::statement_on-returns-in-For-Var-default-default-default-clause-comes
     let i = stmt_at f c.args.id in
     let whole : StmtNode → Stmt = λ n. plain_stmt f n (stmt_place i) (stmt_names i) in
     let kind : IsForWith IsDecls i = subst (λ (u : Stmt). IsForWith IsDecls u) c.requires.node
-        (subst (λ (n : StmtNode). IsForWith IsDecls (whole n)) (sym c.in-For-Var-default-default-default.is)
-        (subst (λ (q : InitNode). IsDecls (init_at f q)) (sym c.in-For-Var-default-default-default.field-0-is) tt)) in
+    (subst (λ (n : StmtNode). IsForWith IsDecls (whole n)) (sym c.in-For-Var-default-default-default.is)
+    (subst (λ (q : InitNode). IsDecls (init_at f q)) (sym c.in-For-Var-default-default-default.field-0-is) tt)) in
     let todo : State → Plan = λ s. and_then (statements_2.declarations (decls_of i) pl s) (taken fs w old.cells (frame.Statement (statement.ForAgain c.args.id at))) in
     IfOk-weaker c.declared_on.result _ _
     (λ h x. instead fs w old c.declared_on.new.store 30 30 todo (statements_2.statement (plain_stmt_form f c.args.node.now) pl) c.args.run.now c.declared_on.new.run h _ x
@@ -5423,8 +5423,8 @@ statements::statement_on-returns-in-For-List-default-default-default-clause-come
     let i = stmt_at f c.args.id in
     let whole : StmtNode → Stmt = λ n. plain_stmt f n (stmt_place i) (stmt_names i) in
     let kind : IsForWith IsExprs i = subst (λ (u : Stmt). IsForWith IsExprs u) c.requires.node
-        (subst (λ (n : StmtNode). IsForWith IsExprs (whole n)) (sym c.in-For-List-default-default-default.is)
-        (subst (λ (q : InitNode). IsExprs (init_at f q)) (sym c.in-For-List-default-default-default.field-0-is) tt)) in
+    (subst (λ (n : StmtNode). IsForWith IsExprs (whole n)) (sym c.in-For-List-default-default-default.is)
+    (subst (λ (q : InitNode). IsExprs (init_at f q)) (sym c.in-For-List-default-default-default.field-0-is) tt)) in
     let todo : State → Plan = λ s. and_then (statements_2.expressions (part_of part.First i) pl s) (taken fs w old.cells (frame.Statement (statement.ForAgain c.args.id at))) in
     IfOk-weaker c.listed_on.result _ _
     (λ h x. instead fs w old c.listed_on.new.store 30 30 todo (statements_2.statement (plain_stmt_form f c.args.node.now) pl) c.args.run.now c.listed_on.new.run h _ x
