@@ -3023,6 +3023,19 @@ looping::passes_by-returns-in-Some-clause-kept t c =
     let inv = c.passes.invariant in
     kept_then fs w s0 s1 s2 inv.1 c.in_ok-how.ensures.kept
 
+pub looping::passes_by-returns-clause-comes : goal.looping::passes_by-returns-clause-comes
+looping::passes_by-returns-clause-comes t c =
+    let fs = trees_of c.args.here.now.site.now.codes.now.items in
+    let w = c.args.here.now.site.now.widget in
+    let s0 = c.args.store.now in
+    let s1 = c.passes.store in
+    let start : State → Plan = λ s. Do (job_of fs w s0.cells (job.Pass c.args.id c.args.here.now.at)) s Ret in
+    let again : State → Plan = λ s. Do (job_of fs w s1.cells (job.Pass c.args.id c.args.here.now.at)) s Ret in
+    let inv = c.passes.invariant in
+    IfOk-weaker c.leave_job.result _ _
+    (λ h k. towards_then fs w s0 s1 s1 0 0 start again c.args.run.now c.passes.run c.leave_job.new.run h (ended_as h c.passes.out) inv.0 (k fs w s1 c.passes.out inv.2) (omega arith))
+    c.leave_job.ensures.comes
+
 pub looping::passes_by-passes-preserved : goal.looping::passes_by-passes-preserved
 looping::passes_by-passes-preserved t c =
     let fs = trees_of c.args.here.now.site.now.codes.now.items in

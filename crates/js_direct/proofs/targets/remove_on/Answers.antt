@@ -1,9 +1,8 @@
 use Rattle.std.specs.Prelude.{IfOk}
 use Rattle.std.proofs.Common.{ap, arith, refl, subst, sym, true}
-use Rattle.widget_meaning.specs.Values as meaning
 use Rattle.widget_meaning.specs.Expressions.{delete_at}
 use Rattle.store_cells.specs.declared.value.Value.TheVariants as value
-use Rattle.js_image.specs.Image.{image, seen}
+use Rattle.js_image.specs.Image.{image}
 use Rattle.js_names.specs.Code.{trees_of}
 use Rattle.js_flow.specs.declared.job.Completion.TheVariants as completion
 use Rattle.js_flow.specs.Views.{reference_of}
@@ -35,14 +34,3 @@ returns-in-Property-clause-comes c =
     let old = c.args.store.now in
     subst (λ q. IfOk c.remove_named.result (λ h. Comes fs w old c.remove_named.new.store 1 (delete_at (reference_of w old.cells q)) c.args.run.now c.remove_named.new.run h c.remove_named.new.out))
     (sym c.in-Property.is) c.remove_named.ensures.comes
-
-pub returns-in-Element-clause-comes : goal.returns-in-Element-clause-comes
-returns-in-Element-clause-comes c =
-    let fs = trees_of c.args.site.now.codes.now.items in
-    let w = c.args.site.now.widget in
-    let old = c.args.store.now in
-    let had = c.args.run.now in
-    subst (λ q. IfOk c.remove_named-2.result (λ h. Comes fs w old c.remove_named-2.new.store 1 (delete_at (reference_of w old.cells q)) had c.remove_named-2.new.run h c.remove_named-2.new.out))
-    (sym c.in-Element.is)
-    (subst (λ d. IfOk c.remove_named-2.result (λ h. Comes fs w old c.remove_named-2.new.store 1 (delete_at (meaning.Property (seen w old.cells (value.Ref c.in-Element.cell)) d)) had c.remove_named-2.new.run h c.remove_named-2.new.out))
-    c.in_ok-name-in-Element.ensures c.remove_named-2.ensures.comes)
