@@ -26,7 +26,7 @@ use Rattle.js_direct.specs.declared.statements.After.{After}
 use Rattle.js_direct.specs.declared.statements.After.TheVariants as after
 use Rattle.js_direct.specs.declared.statements.Part.{Part}
 use Rattle.js_direct.specs.declared.statements.Part.TheVariants as part
-use Rattle.js_direct.specs.Towards.{frame_after, frame_in, part_of}
+use Rattle.js_direct.specs.Towards.{IsDecls, IsExprs, frame_after, frame_in, part_of}
 
 -- a pass: the body, and then what comes after it
 pub pass_is : (i : Stmt) (p : plan.Place) (s : State) → pass (loop_of i) p s ≡ and_then (statements (stmt_list (loop_body i)) p s) (loop_next (loop_of i) p)
@@ -145,16 +145,6 @@ loop_other (ForLoop test next b) p o s = refl
 loop_other (ForInLoop v x y ys b) p o s = refl
 
 -- ## The two kinds of a `for`
-
--- its first part is a list of declarations
-abbrev pub IsDecls : tree.ForInit → Type 0
-IsDecls (tree.DeclsFirst ds) = Unit {0}
-IsDecls (tree.ExprsFirst es) = ⊥
-
--- or of expressions
-abbrev pub IsExprs : tree.ForInit → Type 0
-IsExprs (tree.DeclsFirst ds) = ⊥
-IsExprs (tree.ExprsFirst es) = Unit {0}
 
 -- a `for` with such a first part
 abbrev pub IsForWith : (tree.ForInit → Type 0) → Stmt → Type 0

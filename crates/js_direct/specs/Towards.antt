@@ -1,6 +1,7 @@
 -- What is still to be done once a part of it was carried out.
 use Rattle.std.specs.Prelude.{ℕ, ◌-◌, ◌≤◌, List, Option, MatchOption}
 use Rattle.js_tree.specs.Forest.{Forest}
+use Rattle.js_tree.specs.Plain as tree
 use Rattle.js_tree.specs.Plain.{Expr, Stmt}
 use Rattle.store_cells.specs.Cells.{Cells}
 use Rattle.store_cells.specs.declared.value.Value.{Value}
@@ -47,3 +48,13 @@ part_of part.Last i = last_of i
 abbrev pub frame_in : Part → StmtId → ℕ → Place → StatementFrame
 frame_in part.First i n p = frame.First i n p
 frame_in part.Last i n p = frame.Last i n p
+
+-- the first part of a `for` is a list of declarations
+abbrev pub IsDecls : tree.ForInit → Type 0
+IsDecls (tree.DeclsFirst ds) = Unit {0}
+IsDecls (tree.ExprsFirst es) = ⊥
+
+-- it is a list of expressions
+abbrev pub IsExprs : tree.ForInit → Type 0
+IsExprs (tree.DeclsFirst ds) = ⊥
+IsExprs (tree.ExprsFirst es) = Unit {0}

@@ -1,7 +1,7 @@
 //! Statements, carried out in place.
-ghost use Rattle.std.specs.Prelude.{◌≡◌, ℕ, ◌<◌, ◌+◌, ◌^◌, IfOk, List, MatchOption, drop, [], ◌∷◌, ◌++◌};
+ghost use Rattle.std.specs.Prelude.{◌≡◌, ℕ, ◌<◌, ◌+◌, ◌^◌, IfOk, List, MatchOption, drop, false, true, [], ◌∷◌, ◌++◌};
 ghost use Rattle.js_tree.specs.Trees.{trees};
-ghost use Rattle.js_tree.specs.Forest.{AreStmtParts, Forest, IsExpr, IsStmt, expr_at, plain_stmt, plain_stmt_form, stmt_at};
+ghost use Rattle.js_tree.specs.Forest.{AreStmtParts, Forest, IsExpr, IsStmt, expr_at, init_at, plain_stmt, plain_stmt_form, stmt_at};
 ghost use Rattle.js_tree.specs.Plain.{stmt_names, stmt_place};
 ghost use Rattle.store_cells.specs.Cells.{PlainCell};
 ghost use Rattle.widget_meaning.specs.OwnState.{State};
@@ -20,7 +20,7 @@ ghost use Rattle.js_flow.specs.Statements.{declared};
 ghost use Rattle.js_flow.specs.Views.{completion_of, job_of, place_of};
 ghost use Rattle.js_direct.specs.Hands.{HandsOn};
 ghost use Rattle.js_direct.specs.Comes.{Comes, IsEnd, IsReady, ended_as};
-ghost use Rattle.js_direct.specs.Towards.{frame_after, part_of};
+ghost use Rattle.js_direct.specs.Towards.{IsDecls, IsExprs, frame_after, part_of};
 
 use crate::blocks::block_on;
 use crate::catching::try_on;
@@ -138,8 +138,12 @@ fn statement_on(
         Stmt::If(e, _, _) => if_on(here, run, store, id, *e, deep, out),
         Stmt::While(_, _) => again_on(here, run, store, id, node, deep, out),
         Stmt::DoWhile(_, _) => passes_on(here, run, store, id, deep, out),
-        Stmt::For(ForInit::Var(_), _, _, _) => declared_on(here, run, store, id, node, deep, out),
-        Stmt::For(ForInit::List(_), _, _, _) => listed_on(here, run, store, id, node, deep, out),
+        Stmt::For(first, _, _, _) => {
+            if declares(first) {
+                return declared_on(here, run, store, id, node, deep, out);
+            }
+            listed_on(here, run, store, id, node, deep, out)
+        }
         Stmt::Continue(_) => Ok(Ended::Continue),
         Stmt::Break(_) => Ok(Ended::Break),
         Stmt::Return(None) => Ok(returned(out)),
@@ -149,6 +153,18 @@ fn statement_on(
         // No accepted tree has the others.
         Stmt::With(_, _) => Ok(Ended::Normal),
         Stmt::Label(_, _) => Ok(Ended::Normal),
+    }
+}
+
+// Whether the first part of a `for` is a list of declarations.
+#[inline(always)]
+fn declares(first: &ForInit) -> bool
+    ensures yes { result ≡ true → (f : Forest) → IsDecls (init_at f first.now) }
+    ensures no { result ≡ false → (f : Forest) → IsExprs (init_at f first.now) }
+{
+    match first {
+        ForInit::Var(_) => true,
+        ForInit::List(_) => false,
     }
 }
 

@@ -20,7 +20,7 @@ use Rattle.widget_meaning.specs.Scopes as scopes
 use Rattle.js_direct.proofs.+direct.Goals as goal
 use Rattle.std.proofs.Common.{Bool, List, None, [], ap, arith, drop, if◌then◌else◌, length, refl, rules, subst, suc, sym, true, ℕ, ◌++◌, ◌+◌, ◌-◌, ◌<◌, ◌∙◌, ◌∷◌, ◌≡◌}
 use Rattle.std.proofs.lemmas.Result.{IfOk-weaker}
-use Rattle.js_tree.specs.Forest.{Forest, IsStmt, expr_at, fun_at, init_at, plain_expr, plain_form, plain_stmt, plain_stmt_form, stmt_at}
+use Rattle.js_tree.specs.Forest.{Forest, IsStmt, expr_at, fun_at, plain_expr, plain_form, plain_stmt, plain_stmt_form, stmt_at}
 use Rattle.js_tree.specs.declared.nodes.Stmt.{Stmt as StmtNode}
 use Rattle.widget_meaning.specs.Costs.{make, pay, scope_cost, throw}
 use Rattle.widget_meaning.specs.Expressions.{arguments_then, array_parts, assign_with, base_of, callee, expression, object_parts, refer, target}
@@ -67,8 +67,8 @@ use Rattle.widget_meaning.specs.Meaning.{body}
 use Rattle.widget_meaning.proofs.Runs.{and_then_ret}
 use Rattle.js_direct.specs.Towards.{Passes, Towards, frame_after, frame_in, part_of}
 use Rattle.js_direct.specs.declared.run.Run.{Run}
-use Rattle.js_tree.specs.declared.nodes.ForInit.{ForInit as InitNode}
-use Rattle.js_direct.proofs.Loops.{IsDecls, IsExprs, IsForWith, after_fine, after_free, after_taken, again_normal, for_declared, for_listed, loop_broken, loop_other, part_fine, part_free, part_taken, pass_is}
+use Rattle.js_direct.specs.Towards.{IsDecls, IsExprs}
+use Rattle.js_direct.proofs.Loops.{IsForWith, after_fine, after_free, after_taken, again_normal, for_declared, for_listed, loop_broken, loop_other, part_fine, part_free, part_taken, pass_is}
 use Rattle.js_image.proofs.Hosts.{entry_link}
 use Rattle.widget_meaning.specs.Statements.{bodies, branch, caught, choose_case, finally, for_in, for_in_next, for_in_over, from_default, in_catch, last_end, switch_end}
 use Rattle.js_direct.proofs.Rarer.{caught_passes, charge_paid, charge_waits, clause_passes, end_waits, names_next, one_name, then_gives}
@@ -5406,8 +5406,8 @@ statements::declarations_on-returns-in_default-2 t c =
       kept = kept_then fs w s0 s1 s2 inv.1 kept;
     }
 
-pub statements::statement_on-returns-in-For-Var-default-default-default-clause-comes : goal.statements::statement_on-returns-in-For-Var-default-default-default-clause-comes
-statements::statement_on-returns-in-For-Var-default-default-default-clause-comes t c =
+pub statements::statement_on-returns-then-declares-clause-comes : goal.statements::statement_on-returns-then-declares-clause-comes
+statements::statement_on-returns-then-declares-clause-comes t c =
     let fs = trees_of c.args.here.now.site.now.codes.now.items in
     let w = c.args.here.now.site.now.widget in
     let old = c.args.store.now in
@@ -5415,18 +5415,16 @@ statements::statement_on-returns-in-For-Var-default-default-default-clause-comes
     let f = forest_at fs at.code in
     let pl = place_of w old.cells at in
     let i = stmt_at f c.args.id in
-    let whole : StmtNode → Stmt = λ n. plain_stmt f n (stmt_place i) (stmt_names i) in
     let kind : IsForWith IsDecls i = subst (λ (u : Stmt). IsForWith IsDecls u) c.requires.node
-    (subst (λ (n : StmtNode). IsForWith IsDecls (whole n)) (sym c.in-For-Var-default-default-default.is)
-    (subst (λ (q : InitNode). IsDecls (init_at f q)) (sym c.in-For-Var-default-default-default.field-0-is) tt)) in
+    (subst (λ (n : StmtNode). IsForWith IsDecls (plain_stmt f n (stmt_place i) (stmt_names i))) (sym c.in-For.is) (c.declares.ensures.yes c.if-declares.true f)) in
     let todo : State → Plan = λ s. and_then (statements_2.declarations (decls_of i) pl s) (taken fs w old.cells (frame.Statement (statement.ForAgain c.args.id at))) in
     IfOk-weaker c.declared_on.result _ _
     (λ h x. instead fs w old c.declared_on.new.store 30 30 todo (statements_2.statement (plain_stmt_form f c.args.node.now) pl) c.args.run.now c.declared_on.new.run h _ x
     (λ r. ap (λ (u : Stmt). body (plan.Exec u pl) (image fs r w old)) c.requires.node ∙ for_declared i pl (image fs r w old) kind) (omega arith))
     c.declared_on.ensures.comes
 
-pub statements::statement_on-returns-in-For-List-default-default-default-clause-comes : goal.statements::statement_on-returns-in-For-List-default-default-default-clause-comes
-statements::statement_on-returns-in-For-List-default-default-default-clause-comes t c =
+pub statements::statement_on-returns-else-declares-clause-comes : goal.statements::statement_on-returns-else-declares-clause-comes
+statements::statement_on-returns-else-declares-clause-comes t c =
     let fs = trees_of c.args.here.now.site.now.codes.now.items in
     let w = c.args.here.now.site.now.widget in
     let old = c.args.store.now in
@@ -5434,10 +5432,8 @@ statements::statement_on-returns-in-For-List-default-default-default-clause-come
     let f = forest_at fs at.code in
     let pl = place_of w old.cells at in
     let i = stmt_at f c.args.id in
-    let whole : StmtNode → Stmt = λ n. plain_stmt f n (stmt_place i) (stmt_names i) in
     let kind : IsForWith IsExprs i = subst (λ (u : Stmt). IsForWith IsExprs u) c.requires.node
-    (subst (λ (n : StmtNode). IsForWith IsExprs (whole n)) (sym c.in-For-List-default-default-default.is)
-    (subst (λ (q : InitNode). IsExprs (init_at f q)) (sym c.in-For-List-default-default-default.field-0-is) tt)) in
+    (subst (λ (n : StmtNode). IsForWith IsExprs (plain_stmt f n (stmt_place i) (stmt_names i))) (sym c.in-For.is) (c.declares.ensures.no c.if-declares.false f)) in
     let todo : State → Plan = λ s. and_then (statements_2.expressions (part_of part.First i) pl s) (taken fs w old.cells (frame.Statement (statement.ForAgain c.args.id at))) in
     IfOk-weaker c.listed_on.result _ _
     (λ h x. instead fs w old c.listed_on.new.store 30 30 todo (statements_2.statement (plain_stmt_form f c.args.node.now) pl) c.args.run.now c.listed_on.new.run h _ x
