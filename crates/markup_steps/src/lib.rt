@@ -1,5 +1,5 @@
 //! A reader of markup that takes one character at a time, as the machine of `markup_grammar` does: each of
-//! its functions has one step of that machine as its contract.
+//! its functions has one step of that machine as its contract. Raw text it takes at once (`take_raw`).
 #![tactic(auto)]
 
 pub mod content;
