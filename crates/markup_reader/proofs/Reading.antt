@@ -1,8 +1,9 @@
 -- Reading a text character by character.
-use Rattle.std.proofs.Common.{◌≡◌, ℕ, ◌+◌, ◌≤◌, List, [], ◌∷◌, ◌++◌, Some, None, length, sym, ap, ◌∙◌, arith, length-append, encode_utf8}
-use Rattle.std.specs.Str.{IsUtf8, chars}
+use Rattle.std.proofs.Common.{◌≡◌, ℕ, ◌+◌, ◌<◌, ◌≤◌, List, [], ◌∷◌, ◌++◌, Some, None, length, drop, sym, subst, ap, ◌∙◌, arith, length-append, encode_utf8}
+use Rattle.std.specs.Str.{IsUtf8, IsCharBoundary, chars}
 use Rattle.std.specs.Char.{len_utf8}
-use Rattle.std.proofs.lemmas.Str.{IsUtf8-past_char, chars_past_char, chars-nil, length-encode, len_utf8_bounds}
+use Rattle.std.proofs.lemmas.List.{length-drop}
+use Rattle.std.proofs.lemmas.Str.{IsUtf8-drop, IsUtf8-past_char, chars_past_char, chars-nil, length-encode, len_utf8_bounds}
 use Rattle.markup_grammar.specs.Signs.{sign_of}
 use Rattle.std.proofs.Common.{Option}
 use Rattle.markup_grammar.proofs.Places.{whole}
@@ -28,6 +29,20 @@ one_more text rest tail st next at c l e s = record {
   utf8 = IsUtf8-past_char rest tail c l.utf8 e;
   same = sym (ap (λ o. goes_on o at (λ st2. reads st2 (at + len_utf8 c) (chars tail))) s) ∙ ap (reads st at) (sym (chars_past_char rest tail c l.utf8 e)) ∙ l.same;
 }
+
+-- raw text more
+pub run_more : (text tail rest after : List ℕ) (st next : State) (at n : ℕ) → Left text tail st at → rest ≡ tail → IsCharBoundary rest n → reads st at (chars rest) ≡ reads next (at + n) (chars (drop n rest)) → after ≡ drop n rest → Left text after next (at + n)
+run_more text tail rest after st next at n l e b r is =
+    let k : Left text rest st at = subst (λ t. Left text t st at) (sym e) l in
+    subst (λ t. Left text t next (at + n)) (sym is) (record {
+      place = omega (arith, k.place, length-drop n rest, b.0);
+      utf8 = IsUtf8-drop rest n k.utf8 b;
+      same = sym r ∙ k.same;
+    })
+
+-- less is left
+pub run_less : (before tail rest after : List ℕ) (c n : ℕ) → before ≡ encode_utf8 c ++ tail → rest ≡ tail → after ≡ drop n rest → length after < length before
+run_less before tail rest after c n e r is = let k = len_utf8_bounds c in omega (arith, k.0, ap length e, length-append (encode_utf8 c) tail, length-encode c, ap length r, ap length is, length-drop n rest)
 
 -- no character more
 pub no_more : (text rest tail : List ℕ) (st : State) (at c : ℕ) → Left text rest st at → rest ≡ encode_utf8 c ++ tail → step st (sign_of c) (spot c at) ≡ None → reads begin 0 (chars text) ≡ Stuck at

@@ -91,12 +91,17 @@ fn read_text(alloc: Global, text: &str) -> Result<Reader, MarkupFault>
 {
     let mut reader = Reader::new(alloc)?;
     let mut at = 0;
-    for c in text.chars() {
+    let mut left = text.chars();
+    'reading: while let Some(c) = left.next() {
         match reader.take(c, at) {
             Ok(()) => at += c.len_utf8(),
             Err(Stop::Bad) => return Err(MarkupFault::BadMarkup { at }),
             Err(Stop::Memory) => return Err(MarkupFault::Memory),
         }
+        let rest = left.as_str();
+        let run = reader.take_raw(rest)?;
+        at += run;
+        left = rest[run..].chars();
     }
     Ok(reader)
 }
