@@ -1,3 +1,4 @@
 pub mod Body
 pub mod Splitting
 pub mod GoodFiles
+mod Ascii

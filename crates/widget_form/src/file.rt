@@ -1,5 +1,7 @@
 //! A file in its parts, or its first broken rule.
 ghost use Rattle.std.specs.Prelude.{◌≡◌, ◌+◌, [], length, map, IfOk, IfErr, filter_map, option_map, take, ◌≢◌};
+ghost use Rattle.std.specs.Char.{is_ascii};
+ghost use Rattle.std.specs.List.{list_all};
 ghost use Rattle.code_units.specs.Utf8.{utf8_of};
 ghost use Rattle.plain_tree.specs.Trees.{Trees, beside};
 ghost use Rattle.plain_tree.specs.Plains.{Places, placed, placed_all};
@@ -18,13 +20,37 @@ use markup_rules::rows::Slot;
 use plain_tree::Plain;
 use std::alloc::Global;
 
+// Whether a unit is of ASCII.
+fn is_ascii(unit: u16) -> bool
+    ensures { result ≡ is_ascii unit }
+{
+    unit < 128
+}
+
+fn are_ascii(units: &[u16]) -> bool
+    ensures { result ≡ list_all is_ascii units.now }
+{
+    units.iter().all(|unit| is_ascii(*unit))
+}
+
+// How many bytes a text has in UTF-8: as many as units, where it is ASCII.
+fn utf8_len(alloc: Global, text: &Text) -> Result<usize, Memory>
+    ensures { IfOk result (λ n. n ≡ length (utf8_of text.now)) }
+{
+    let units = text.units();
+    if are_ascii(units) {
+        return Ok(units.len());
+    }
+    let mut bytes = Vec::new(alloc);
+    push_utf8(text, &mut bytes)?;
+    Ok(bytes.len())
+}
+
 // Where a text stands.
 fn text_span(alloc: Global, text: &Text, from: usize) -> Result<Span, Memory>
     ensures { IfOk result (λ s. s ≡ record { from = from; to = from + length (utf8_of text.now) }) }
 {
-    let mut bytes = Vec::new(alloc);
-    push_utf8(text, &mut bytes)?;
-    match from.checked_add(bytes.len()) {
+    match from.checked_add(utf8_len(alloc, text)?) {
         Some(to) => Ok(Span { from, to }),
         None => Err(Memory),
     }
