@@ -12,10 +12,10 @@ reading-preserved c =
     let m = c.reading.at + c.len_utf8-at.result in
     let one = subst (λ n. Left c.args.text.now c.next.new.self.rest.now (state_of c.take.new.self) (c.reading.at + n)) (sym c.len_utf8-at.ensures.value)
     (one_more c.args.text.now c.reading.left.rest.now c.next.new.self.rest.now (state_of c.reading.reader) (state_of c.take.new.self) c.reading.at c.in-Some.c c.reading.invariant c.in-Some.ensures.steps.0 c.in-Ok.ensures) in
-    run_more c.args.text.now c.next.new.self.rest.now c.as_str-rest.result.now c.chars.result.rest.now (state_of c.take.new.self) (state_of c.take_raw-run.new.self) m c.in_ok-run.run one c.as_str-rest.ensures c.in_ok-run.ensures.boundary (c.in_ok-run.ensures.read m) (c.chars.ensures.rest ∙ c.range_from.ensures.value)
+    run_more c.args.text.now c.next.new.self.rest.now c.as_str-rest.result.now c.chars-left-in-Some.result.rest.now (state_of c.take.new.self) (state_of c.take_raw.new.self) m c.in_ok-run.run' one c.as_str-rest.ensures c.in_ok-run.ensures.boundary (c.in_ok-run.ensures.read m) (c.chars-left-in-Some.ensures.rest ∙ c.range_from.ensures.value)
 
 pub reading-smaller : goal.reading-smaller
-reading-smaller c = run_less c.reading.left.rest.now c.next.new.self.rest.now c.as_str-rest.result.now c.chars.result.rest.now c.in-Some.c c.in_ok-run.run c.in-Some.ensures.steps.0 c.as_str-rest.ensures (c.chars.ensures.rest ∙ c.range_from.ensures.value)
+reading-smaller c = run_less c.reading.left.rest.now c.next.new.self.rest.now c.as_str-rest.result.now c.chars-left-in-Some.result.rest.now c.in-Some.c c.in_ok-run.run' c.in-Some.ensures.steps.0 c.as_str-rest.ensures (c.chars-left-in-Some.ensures.rest ∙ c.range_from.ensures.value)
 
 pub returns-in-Err-Bad : goal.returns-in-Err-Bad
 returns-in-Err-Bad c =
