@@ -133,20 +133,14 @@ fn go_on(flow: &mut Flow, frame: &FormFrame, value: Value) -> Result<(), Memory>
 {
     match frame {
         FormFrame::SubBase(e, place) => evaluate(flow, FormFrame::Sub(value), *e, *place),
-        FormFrame::TargetSubBase(e, place) => evaluate(
-            flow,
-            FormFrame::TargetSub(value),
-            *e,
-            *place,
-        ),
+        FormFrame::TargetSubBase(e, place) => {
+            let waits = FormFrame::TargetSub(value);
+            evaluate(flow, waits, *e, *place)
+        }
         FormFrame::Found => give_reference(flow, Reference::Found(value)),
         FormFrame::Right(op, e, place) => {
-            evaluate(
-                flow,
-                FormFrame::Operate(*op, value, place.depth),
-                *e,
-                *place,
-            )
+            let waits = FormFrame::Operate(*op, value, place.depth);
+            evaluate(flow, waits, *e, *place)
         }
         FormFrame::And(e, place) => {
             if is_true(&value) {
