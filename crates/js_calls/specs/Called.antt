@@ -28,8 +28,6 @@ use Rattle.js_values.specs.declared.outcome.Keep.{Keep}
 use Rattle.js_values.specs.declared.outcome.Keep.TheVariants as keep
 use Rattle.js_values.specs.declared.outcome.NativeOut.{NativeOut}
 use Rattle.js_values.specs.declared.outcome.NativeOut.TheVariants as native
-use Rattle.js_values.specs.declared.outcome.Plan.{Plan as Calls}
-use Rattle.js_values.specs.declared.outcome.Plan.TheVariants as calls
 use Rattle.js_flow.specs.declared.job.Call.{Call}
 use Rattle.js_flow.specs.declared.frame.Argument.{Argument}
 use Rattle.js_flow.specs.declared.frame.Calling.{Calling}
@@ -84,17 +82,6 @@ abbrev pub kept_as : Keep → KeptBy
 kept_as keep.Nothing = by.Nothing
 kept_as keep.Results = by.Results
 kept_as keep.Passing = by.Passing
-
--- calls that ask for no handlers
-abbrev pub IsNoFire : Calls → Type 0
-IsNoFire (calls.Fire kind nodes last) = ⊥
-IsNoFire _ = Unit {0}
-
--- an answer that js_steps carries on: no handlers are called, and fuel is not wanting
-abbrev pub IsCarried : NativeOut → Type 0
-IsCarried (native.Call p) = IsNoFire p
-IsCarried native.OutOfFuel = ⊥
-IsCarried _ = Unit {0}
 
 -- ## The scope of a call
 

@@ -4,11 +4,11 @@ ghost use Rattle.std.specs.Prelude.{◌≡◌, ℕ, ◌<◌, ◌≤◌, OnOk, []
 ghost use Rattle.js_image.specs.Image.{seen};
 ghost use Rattle.js_image.specs.Held.{IsConfined, Kept};
 ghost use Rattle.js_names.specs.Code.{trees_of};
-ghost use Rattle.js_values.specs.Answers.{AreFineCalls, IsFineOut, called};
+ghost use Rattle.js_values.specs.Answers.{AreFineCalls, IsCarried, IsFineOut, IsNoFire, called};
 ghost use Rattle.js_flow.specs.Fine.{FineLeft};
 ghost use Rattle.js_flow.specs.Frames.{Plans};
 ghost use Rattle.js_flow.specs.Free.{left_free};
-ghost use Rattle.js_calls.specs.Called.{IsCarried, IsNoFire, given, kept_as};
+ghost use Rattle.js_calls.specs.Called.{given, kept_as};
 ghost use Rattle.js_flow.specs.Left.{Leaves, all_frames};
 
 use crate::invoking::throw;

@@ -82,3 +82,14 @@ module _ (w : ℕ) (cells : List PlainCell) where
   IsFineOut (native.Value v) = IsFine w cells v
   IsFineOut (native.Call p) = AreFineCalls p
   IsFineOut _ = Unit {0}
+
+-- calls that ask for no handlers
+abbrev pub IsNoFire : Calls → Type 0
+IsNoFire (calls.Fire kind nodes last) = ⊥
+IsNoFire _ = Unit {0}
+
+-- an answer that is carried out without the page: no handlers are called, and fuel is not wanting
+abbrev pub IsCarried : NativeOut → Type 0
+IsCarried (native.Call p) = IsNoFire p
+IsCarried native.OutOfFuel = ⊥
+IsCarried _ = Unit {0}

@@ -1,10 +1,9 @@
 //! A native that a turn carries out, and what its answer comes to.
 ghost use Rattle.std.specs.Prelude.{◌≡◌, ◌<◌, false, IfOk, None, OnOk, reverse, drop};
-ghost use Rattle.js_calls.specs.Called.{IsCarried};
 ghost use Rattle.plan_ends.specs.Ends.{ByValue};
 ghost use Rattle.js_steps.specs.Ending.{Awaits};
 ghost use Rattle.js_flow.specs.Fine.{FineFrames, FineNative};
-ghost use Rattle.js_values.specs.Answers.{IsFineOut};
+ghost use Rattle.js_values.specs.Answers.{IsCarried, IsFineOut};
 ghost use Rattle.native_image.specs.Image.{beside, dispatches_of};
 ghost use Rattle.native_image.specs.Meets.{FiresAtOwn};
 ghost use Rattle.native_image.specs.Sound.{KeepsAll};
