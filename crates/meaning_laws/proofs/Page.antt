@@ -18,14 +18,14 @@ use Rattle.widget_meaning.specs.Trees.{Trees, label_of, tops, children, parent, 
 use Rattle.widget_meaning.specs.Costs.{cost, give, with_counts, want}
 use Rattle.widget_meaning.specs.Plan.{Plan}
 use Rattle.permitted_table.specs.declared.native.ReadNative.{ReadNative}
-use Rattle.permitted_table.specs.declared.native.ReadNative.TheVariants.{Query, GetValue, GetValues, GetStyle, GetClass, GetTitle, GetCheck, Explode, Count, GetParent, GetTagName, GetMark}
+use Rattle.permitted_table.specs.declared.native.ReadNative.TheVariants.{Query, GetValue, GetValues, GetStyle, GetCheck, Explode, Count, GetParent}
 use Rattle.permitted_table.specs.declared.native.WriteNative.{WriteNative}
 use Rattle.permitted_table.specs.declared.native.WriteNative.TheVariants.{Append, Remove, Empty, Replace, SetValue, SetStyle, SetClass, SetTitle, SetCheck, SetEnabled, Focus, Blur, On, Off, Fire, Each, SetMark, Protect}
 use Rattle.permitted_table.specs.declared.native.DomNative.{DomNative}
 use Rattle.permitted_table.specs.declared.native.DomNative.TheVariants.{DomQuery, DomAppend, DomTag, DomText}
 use Rattle.widget_meaning.specs.PageForms.{root, next_node, with_room, with_node, is_input, is_text_node, want_one, want_bunch, with_label, is_field, tree_units, is_element, attribute, tag_of, texts_of}
 use Rattle.query_grammar.specs.Steps.{Step}
-use Rattle.widget_meaning.specs.BunchReads.{bunches_from, query, read_native, give_page_text, query_steps, get_value, get_values, get_attribute, get_style, explode, get_parent, get_tag_name, read_method, exploded, with_bunch, value_of, has_open_parent, first_attribute, first_mark}
+use Rattle.widget_meaning.specs.BunchReads.{bunches_from, query, read_native, give_page_text, query_steps, get_values, get_style, explode, get_parent, read_method, exploded, with_bunch, value_of, has_open_parent, first_found, first_attribute, first_value, first_tag, first_mark, shown, shown_extra, give_found}
 use Rattle.widget_meaning.specs.BunchWrites.{appended, write_native, alter, alter_for, append_trees, append, remove, replace, set_value, set_style, set_attribute, set_flag, focus, blur, listen, hush, fired, fire, each_called, each, write_method, with_copies, emptied, relabel, with_text_node, valued, alter_each, change_kept, styled, with_handler, with_focus, left_focus, is_target, has_new_text, is_no_root, is_value_target}
 use Rattle.widget_meaning.specs.DomNatives.{dom_native, give_node, dom_tag, append_to_root, dom_append, given_text}
 use Rattle.widget_meaning.specs.Natives.{run_native}
@@ -117,13 +117,36 @@ module _ (m : Sizes) where
       by true = attribute_told s n (codes "value") hr
       by false = also m (λ q. texts_are (subtree n s.own.forest) (page_subtree n s.own.forest q)) hr.there.labels
 
+  found_told : (s : State) (ns : List ℕ) (x : List ℕ) → R m s → Told m (MaybeUnits (first_found s ns x))
+  found_told s [] x hr = told m tt
+  found_told s (n ∷ ns) x hr = also m (attribute_found x (label_of n s.own.forest)) (label_told s n hr)
+
   first_told : (s : State) (ns : List ℕ) (x : List ℕ) → R m s → Told m (AreUnits (first_attribute s ns x))
-  first_told s [] x hr = told m tt
-  first_told s (n ∷ ns) x hr = attribute_told s n x hr
+  first_told s ns x hr = also m (or_empty (first_found s ns x)) (found_told s ns x hr)
+
+  first_value_told : (s : State) (ns : List ℕ) → R m s → Told m (MaybeUnits (first_value s ns))
+  first_value_told s [] hr = told m tt
+  first_value_told s (n ∷ ns) hr = value_told s n hr
 
   mark_told : (s : State) (ns : List ℕ) → R m s → Told m (AreUnits (first_mark s ns))
   mark_told s [] hr = told m tt
   mark_told s (n ∷ ns) hr = (hr.there.kept n).mark
+
+  tag_text_told : (s : State) (n : ℕ) → R m s → Told m (AreUnits (if is_text_node s n then codes "#text" else tag_of s n))
+  tag_text_told s n hr = by (is_text_node s n)
+    where
+      by : (b : Bool) → Told m (AreUnits (if b then codes "#text" else tag_of s n))
+      by true = told m (units_tested (codes "#text") refl)
+      by false = tag_told s n hr
+
+  first_tag_told : (s : State) (ns : List ℕ) → R m s → Told m (MaybeUnits (first_tag s ns))
+  first_tag_told s [] hr = told m tt
+  first_tag_told s (n ∷ ns) hr = tag_text_told s n hr
+
+  -- one method is named, and `w` are all others
+  shown_told : (w : ReadNative) (s : State) (ns : List ℕ) → R m s → Told m (MaybeUnits (shown w s ns))
+  shown_told GetValue s ns hr = search (first_value_told)
+  shown_told w s ns hr = search (found_told, first_told, first_tag_told, mark_told, told)
 
   changed_kept : (f : Kept → Kept) (s : State) (n : ℕ) → R m s → ((k : Kept) → KeptIs m k → KeptIs m (f k)) → R m (change_kept f s n)
   changed_kept f s n h q = rekept m s.own.heap s.own.scopes s.own.kept s.own.timers s.own.forest s.own.focus s.own.counts.slots n (f (kept_at s n)) h (q (kept_at s n) (h.there.kept n))
@@ -263,15 +286,8 @@ query_steps_r m (Some qs) ns s hr hn = charged m _ s _ hr (make_bunch_r m _ s gi
 pub query_r : (m : Sizes) (x0 : List ℕ) (x1 : Value) (x2 : State) → R m x2 → NodesAre m x0 → Keeps m (query x0 x1 x2)
 query_r m ns v s hr hn = wanted m E4 (not (list_any is_object (v ∷ []))) s _ hr (λ _. query_steps_r m (read_query (to_text v)) ns s hr hn)
 
-pub get_value_r : (m : Sizes) (x0 : List ℕ) (x1 : State) → R m x1 → Keeps m (get_value x0 x1)
-get_value_r m [] s hr = ended m _ s hr (value_end m _ (undefined_is m))
-get_value_r m (n ∷ ns) s hr = give_page_text_r m _ _ s hr (value_told m s n hr)
-
 pub get_values_r : (m : Sizes) (x0 : List ℕ) (x1 : State) → R m x1 → Keeps m (get_values x0 x1)
 get_values_r m ns s hr = charged m _ s _ hr (give_texts_r m (map (value_of s) ns) s hr (record { holds = λ e. each_made AreUnits (value_of s) (λ n. (value_told m s n hr).holds e) ns }))
-
-pub get_attribute_r : (m : Sizes) (x0 : List ℕ) (x1 : List ℕ) (x2 : State) → R m x2 → Keeps m (get_attribute x0 x1 x2)
-get_attribute_r m ns x s hr = give_page_text_r m _ _ s hr (first_told m s ns x hr)
 
 pub get_style_r : (m : Sizes) (x0 : List ℕ) (x1 : Value) (x2 : State) → R m x2 → Keeps m (get_style x0 x1 x2)
 get_style_r m ns p s hr = wanted m E4 (not (list_any is_object (p ∷ []))) s _ hr (λ _. wanted m E4 (is_listed (to_text p)) s _ hr (λ e. give_page_text_r m _ _ s hr (told m (style_value_is (style_pairs (first_attribute s ns (codes "style"))) (to_text p) (style_pairs_are (first_attribute s ns (codes "style")))))))
@@ -291,16 +307,9 @@ explode_r m ns s hr hn = charged m _ s _ hr (paid m _ s (λ t. give (Own (length
 pub get_parent_r : (m : Sizes) (x0 : List ℕ) (x1 : State) → R m x1 → Keeps m (get_parent x0 x1)
 get_parent_r m ns s hr = wanted m E10 (list_all (has_open_parent s) ns) s _ hr (λ _. charged m _ s _ hr (make_bunch_r m _ s give hr (parents_are m s hr ns) (λ n g v t u w. ended n (Is v) t u (value_end n v w))))
 
-tag_units_told : (m : Sizes) (s : State) (n : ℕ) → R m s → Told m (AreUnits (if is_text_node s n then codes "#text" else tag_of s n))
-tag_units_told m s n hr = by (is_text_node s n)
-  where
-    by : (b : Bool) → Told m (AreUnits (if b then codes "#text" else tag_of s n))
-    by true = told m (units_tested (codes "#text") refl)
-    by false = tag_told m s n hr
-
-pub get_tag_name_r : (m : Sizes) (x0 : List ℕ) (x1 : State) → R m x1 → Keeps m (get_tag_name x0 x1)
-get_tag_name_r m [] s hr = ended m _ s hr (value_end m _ (undefined_is m))
-get_tag_name_r m (n ∷ ns) s hr = give_page_text_r m _ _ s hr (tag_units_told m s n hr)
+pub give_found_r : (m : Sizes) (x0 : ℕ) (x1 : Option (List ℕ)) (x2 : State) → R m x2 → Told m (MaybeUnits x1) → Keeps m (give_found x0 x1 x2)
+give_found_r m extra None s hr ht = ended m _ s hr (value_end m _ (undefined_is m))
+give_found_r m extra (Some t) s hr ht = give_page_text_r m extra t s hr ht
 
 counted_number : (n : ℕ) → n ≤ max_slots → n < past_numbers
 counted_number n h = omega (arith, h)
@@ -326,17 +335,13 @@ bunch_count m s hr (Own n) ns e = count_of (cell_at s n).kind ns (hr.there.fits 
 
 pub read_method_r : (m : Sizes) (x0 : ReadNative) (x1 : List ℕ) (x2 : List Value) (x3 : State) → R m x3 → NodesAre m x1 → length x1 ≤ max_slots → Keeps m (read_method x0 x1 x2 x3)
 read_method_r m Query ns vs s hr hn hc = query_r m ns (nth 0 vs) s hr hn
-read_method_r m GetValue ns vs s hr hn hc = get_value_r m ns s hr
 read_method_r m GetValues ns vs s hr hn hc = get_values_r m ns s hr
 read_method_r m GetStyle ns vs s hr hn hc = get_style_r m ns (nth 0 vs) s hr
-read_method_r m GetClass ns vs s hr hn hc = get_attribute_r m ns (codes "class") s hr
-read_method_r m GetTitle ns vs s hr hn hc = get_attribute_r m ns (codes "title") s hr
 read_method_r m GetCheck ns vs s hr hn hc = charged m _ s _ hr (ended m _ s hr (value_end m _ (truth_is m _)))
 read_method_r m Explode ns vs s hr hn hc = explode_r m ns s hr hn
 read_method_r m Count ns vs s hr hn hc = charged m _ s _ hr (ended m _ s hr (value_end m _ (num_is m (pos (length ns)) (told m (counted_number (length ns) hc)))))
 read_method_r m GetParent ns vs s hr hn hc = get_parent_r m ns s hr
-read_method_r m GetTagName ns vs s hr hn hc = get_tag_name_r m ns s hr
-read_method_r m GetMark ns vs s hr hn hc = give_page_text_r m _ _ s hr (mark_told m s ns hr)
+read_method_r m w ns vs s hr hn hc = give_found_r m (shown_extra w s ns) (shown w s ns) s hr (shown_told m w s ns hr)
 
 read_on : (m : Sizes) (w : ReadNative) (this : Option Value) (vs : List Value) (s : State) → R m s → Keeps m (on_bunch this s (λ ns. read_method w ns vs s))
 read_on m w None vs s hr = faulted m E3 s hr

@@ -4,7 +4,7 @@ use Rattle.permitted_table.specs.declared.native.TextNative.{TextNative}
 use Rattle.permitted_table.specs.declared.native.TextNative.TheVariants.{CharAt, CharCodeAt, TextConcat, IndexOf, LastIndexOf, TextSlice, Substring, Split, ToLowerCase, ToUpperCase}
 use Rattle.widget_meaning.specs.Values.{Value, Undefined, Text, Is, nth, to_text, to_number, is_object, E4}
 use Rattle.widget_meaning.specs.OwnState.{State}
-use Rattle.widget_meaning.specs.TextNatives.{char_at, char_code_at, text_concat, index_of, last_index_of, text_slice, substring, split, pieces, text_method, text_native, first_code, unit_at, found, positions, between}
+use Rattle.widget_meaning.specs.TextNatives.{char_at, char_code_at, text_concat, index_of, last_index_of, text_slice, substring, split, pieces, made_of, text_method, text_native, first_code, unit_at, found, positions, between}
 use Rattle.std.specs.List.{list_any, filter, flat_map, last_or}
 use Rattle.widget_meaning.specs.NativeForms.{from_end, clamped}
 use Rattle.widget_meaning.specs.Costs.{give}
@@ -61,6 +61,11 @@ pub split_r : (m : Sizes) (x0 : List ℕ) (x1 : Value) (x2 : State) → R m x2 �
 split_r m t Undefined s hr ht = charged m _ s _ hr (make_array_r m (Text t ∷ []) 0 s give hr (more_values m (Text t) [] (text_is m t ht) (no_values m)) (λ n g v u q w. ended n (Is v) u q (value_end n v w)))
 split_r m t x s hr ht = want_primitives_r m (x ∷ []) s _ hr (charged m (length t + (length (to_text x) + sum_by length (pieces (to_text x) t))) s _ hr (give_texts_r m (pieces (to_text x) t) s hr (also m (λ q. pieces_are (to_text x) t q.0) ht)))
 
+made_units : (w : TextNative) (t : List ℕ) → AreUnits t → AreUnits (made_of w t)
+made_units ToLowerCase t h = lower_text t h
+made_units ToUpperCase t h = upper_text t h
+made_units w t h = h
+
 pub text_method_r : (m : Sizes) (x0 : TextNative) (x1 : List ℕ) (x2 : List Value) (x3 : State) → R m x3 → Told m (IsText x1) → ValuesAre m x2 → Keeps m (text_method x0 x1 x2 x3)
 text_method_r m CharAt t vs s hr ht hv = char_at_r m t (nth 0 vs) s hr ht
 text_method_r m CharCodeAt t vs s hr ht hv = char_code_at_r m t (nth 0 vs) s hr ht
@@ -70,8 +75,7 @@ text_method_r m LastIndexOf t vs s hr ht hv = last_index_of_r m t (nth 0 vs) (nt
 text_method_r m TextSlice t vs s hr ht hv = text_slice_r m t (nth 0 vs) (nth 1 vs) s hr ht
 text_method_r m Substring t vs s hr ht hv = substring_r m t (nth 0 vs) (nth 1 vs) s hr ht
 text_method_r m Split t vs s hr ht hv = split_r m t (nth 0 vs) s hr ht
-text_method_r m ToLowerCase t vs s hr ht hv = give_text_r m _ _ s hr (also m (λ q. lower_text t q.0) ht)
-text_method_r m ToUpperCase t vs s hr ht hv = give_text_r m _ _ s hr (also m (λ q. upper_text t q.0) ht)
+text_method_r m w t vs s hr ht hv = give_text_r m (length t) (made_of w t) s hr (also m (λ q. made_units w t q.0) ht)
 
 pub text_native_r : (m : Sizes) (x0 : TextNative) (x1 : Option Value) (x2 : List Value) (x3 : State) → R m x3 → MaybeIs m x1 → ValuesAre m x2 → Keeps m (text_native x0 x1 x2 x3)
 text_native_r m w this vs s hr h1 h2 = on_text_r m this s _ hr h1 (λ t ht. text_method_r m w t vs s hr ht h2)

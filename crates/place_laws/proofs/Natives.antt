@@ -17,12 +17,12 @@ use Rattle.permitted_table.specs.declared.native.GlobalNative.TheVariants.{Boole
 use Rattle.permitted_table.specs.declared.native.MathNative.{MathNative}
 use Rattle.permitted_table.specs.declared.native.MathNative.TheVariants.{Abs, Ceil, Floor, Round, Max, Min, Pow}
 use Rattle.permitted_table.specs.declared.native.TextNative.{TextNative}
-use Rattle.permitted_table.specs.declared.native.TextNative.TheVariants.{CharAt, CharCodeAt, TextConcat, IndexOf, LastIndexOf, TextSlice, Substring, Split, ToLowerCase, ToUpperCase}
+use Rattle.permitted_table.specs.declared.native.TextNative.TheVariants.{CharAt, CharCodeAt, TextConcat, IndexOf, LastIndexOf, TextSlice, Substring, Split}
 use Rattle.widget_meaning.specs.Operators.{OpOut, as_number}
 use Rattle.widget_meaning.specs.NativeForms.{want_primitives, with_number, give_text, want_function, on_text, on_array, on_bunch, make_array, make_bunch, with_number_or, with_optional, give_texts, on_object, numbered_pairs, is_too_long}
 use Rattle.widget_meaning.specs.GlobalNatives.{units_read, boolean_of, of_number, number_of, nan_or_not, text_of_primitive, string_of, string_native, parsed, parse_int, has_left, from_char_code, global_native}
 use Rattle.widget_meaning.specs.MathNatives.{best, power, of_one, of_all, pow, math_native}
-use Rattle.widget_meaning.specs.TextNatives.{unit_at, first_code, pieces, char_at, char_code_at, text_concat, index_of, last_index_of, text_slice, substring, split, text_method, text_native}
+use Rattle.widget_meaning.specs.TextNatives.{unit_at, first_code, pieces, char_at, char_code_at, text_concat, index_of, last_index_of, text_slice, substring, split, made_of, text_method, text_native}
 use Rattle.place_laws.proofs.Near.{N, bare, itself, moved, born, births, own_function_bare, array_bare, bunch_bare}
 use Rattle.place_laws.proofs.Alike.{Alike, ended, halted, either, value, chain, charged, paid, made, made_text, faulted, found, wanted}
 use Rattle.place_laws.proofs.Forms.{result_a, to_primitive_a}
@@ -173,8 +173,7 @@ text_method_a LastIndexOf t vs s s' near = last_index_of_a t (nth 0 vs) (nth 1 v
 text_method_a TextSlice t vs s s' near = text_slice_a t (nth 0 vs) (nth 1 vs) s s' near
 text_method_a Substring t vs s s' near = substring_a t (nth 0 vs) (nth 1 vs) s s' near
 text_method_a Split t vs s s' near = split_a t (nth 0 vs) s s' near
-text_method_a ToLowerCase t vs s s' near = give_text_a (length t) _ s s' near
-text_method_a ToUpperCase t vs s s' near = give_text_a (length t) _ s s' near
+text_method_a w t vs s s' near = give_text_a (length t) (made_of w t) s s' near
 
 pub text_native_a : (x0 : TextNative) (x1 : Option Value) (x2 : List Value) (x3 z3 : State) → N x3 z3 → Alike (text_native x0 x1 x2 x3) (text_native x0 x1 x2 z3)
 text_native_a w this vs s s' near = on_text_a this s s' _ _ near (λ t. text_method_a w t vs s s' near)

@@ -21,14 +21,14 @@ use Rattle.widget_meaning.specs.Plan.{Plan, Call}
 use Rattle.widget_meaning.specs.Queries.{read_query, finds}
 use Rattle.widget_meaning.specs.NativeForms.{numbered_pairs, make_bunch}
 use Rattle.permitted_table.specs.declared.native.ReadNative.{ReadNative}
-use Rattle.permitted_table.specs.declared.native.ReadNative.TheVariants.{Query, GetValue, GetValues, GetStyle, GetClass, GetTitle, GetCheck, Explode, Count, GetParent, GetTagName, GetMark}
+use Rattle.permitted_table.specs.declared.native.ReadNative.TheVariants.{Query, GetValue, GetValues, GetStyle, GetCheck, Explode, Count, GetParent}
 use Rattle.permitted_table.specs.declared.native.WriteNative.{WriteNative}
 use Rattle.permitted_table.specs.declared.native.WriteNative.TheVariants.{Append, Remove, Empty, Replace, SetValue, SetStyle, SetClass, SetTitle, SetCheck, SetEnabled, Focus, Blur, On, Off, Fire, Each, SetMark, Protect}
 use Rattle.permitted_table.specs.declared.native.DomNative.{DomNative}
 use Rattle.permitted_table.specs.declared.native.DomNative.TheVariants.{DomQuery, DomAppend, DomTag, DomText}
 use Rattle.permitted_table.specs.declared.native.NativeId.TheVariants as native
 use Rattle.widget_meaning.specs.PageForms.{root, next_node, with_node, want_all, is_input, is_field, is_element, is_text_node, want_one, want_bunch, with_label}
-use Rattle.widget_meaning.specs.BunchReads.{starts, bunches_from, query, read_native, give_page_text, query_steps, value_of, get_value, get_values, first_attribute, get_attribute, get_style, is_checked, explode, has_open_parent, get_parent, get_tag_name, first_mark, read_method, exploded, with_bunch}
+use Rattle.widget_meaning.specs.BunchReads.{starts, bunches_from, query, read_native, give_page_text, query_steps, value_of, get_values, first_attribute, get_style, is_checked, explode, has_open_parent, get_parent, shown, shown_extra, give_found, show, read_method, exploded, with_bunch}
 use Rattle.widget_meaning.specs.BunchWrites.{is_no_root, is_target, appended, write_native, alter, alter_for, append_trees, append, remove, replace, is_value_target, set_value, styled, set_style, set_attribute, set_flag, with_focus, focus, left_focus, blur, with_handler, listen, hush, fired, fire, each_called, each, write_method, with_copies, emptied, relabel, with_text_node, valued, alter_each, change_kept}
 use Rattle.widget_meaning.specs.DomNatives.{dom_native, give_node, given_text, dom_tag, append_to_root, dom_append}
 use Rattle.widget_meaning.specs.Natives.{run_native}
@@ -49,10 +49,6 @@ attribute_bare s (n ∷ ns) x = refl
 checked_bare : (s : State) (ns : List ℕ) → is_checked (bare s) ns ≡ is_checked s ns
 checked_bare s [] = refl
 checked_bare s (n ∷ ns) = refl
-
-mark_bare : (s : State) (ns : List ℕ) → first_mark (bare s) ns ≡ first_mark s ns
-mark_bare s [] = refl
-mark_bare s (n ∷ ns) = refl
 
 starts_bare : (s : State) (qs : List Step) (ns : List ℕ) → starts (bare s) qs ns ≡ starts s qs ns
 starts_bare s [] ns = refl
@@ -131,16 +127,8 @@ query_steps_a (Some qs) ns s s' near = moved (λ y. Alike (query_steps (Some qs)
 pub query_a : (x0 : List ℕ) (x1 : Value) (x2 z2 : State) → N x2 z2 → Alike (query x0 x1 x2) (query x0 x1 z2)
 query_a ns v s s' near = want_primitives_a (v ∷ []) s s' _ _ near (query_steps_a (read_query (to_text v)) ns s s' near)
 
-pub get_value_a : (x0 : List ℕ) (x1 z1 : State) → N x1 z1 → Alike (get_value x0 x1) (get_value x0 z1)
-get_value_a [] s s' near = ended (Is Undefined) s s' near
-get_value_a (n ∷ ns) s s' near = moved (λ y. Alike (get_value (n ∷ ns) s) (get_value (n ∷ ns) y)) s s' near (give_page_text_a _ (value_of s n) s (bare s) (itself s))
-
 pub get_values_a : (x0 : List ℕ) (x1 z1 : State) → N x1 z1 → Alike (get_values x0 x1) (get_values x0 z1)
 get_values_a ns s s' near = moved (λ y. Alike (get_values ns s) (get_values ns y)) s s' near (charged _ s (bare s) _ _ (itself s) (give_texts_a (map (value_of s) ns) s (bare s) (itself s)))
-
-pub get_attribute_a : (x0 : List ℕ) (x1 : List ℕ) (x2 z2 : State) → N x2 z2 → Alike (get_attribute x0 x1 x2) (get_attribute x0 x1 z2)
-get_attribute_a ns x s s' near = moved (λ y. Alike (get_attribute ns x s) (get_attribute ns x y)) s s' near
-    (subst (λ (t : List ℕ). Alike (get_attribute ns x s) (give_page_text (length ns) t (bare s))) (sym (attribute_bare s ns x)) (give_page_text_a (length ns) (first_attribute s ns x) s (bare s) (itself s)))
 
 pub get_style_a : (x0 : List ℕ) (x1 : Value) (x2 z2 : State) → N x2 z2 → Alike (get_style x0 x1 x2) (get_style x0 x1 z2)
 get_style_a ns p s s' near = want_primitives_a (p ∷ []) s s' _ _ near (wanted E4 (is_listed (to_text p)) s s' _ _ near
@@ -157,24 +145,29 @@ pub get_parent_a : (x0 : List ℕ) (x1 z1 : State) → N x1 z1 → Alike (get_pa
 get_parent_a ns s s' near = moved (λ y. Alike (get_parent ns s) (get_parent ns y)) s s' near
     (want_all_a (has_open_parent s) ns s (bare s) _ _ (itself s) (charged (length ns) s (bare s) _ _ (itself s) (make_bunch_a _ s (bare s) give give (itself s) (λ v t y u. ended (Is v) t y u))))
 
-pub get_tag_name_a : (x0 : List ℕ) (x1 z1 : State) → N x1 z1 → Alike (get_tag_name x0 x1) (get_tag_name x0 z1)
-get_tag_name_a [] s s' near = ended (Is Undefined) s s' near
-get_tag_name_a (n ∷ ns) s s' near = moved (λ y. Alike (get_tag_name (n ∷ ns) s) (get_tag_name (n ∷ ns) y)) s s' near (give_page_text_a _ _ s (bare s) (itself s))
+give_found_a : (x0 : ℕ) (x1 : Option (List ℕ)) (x2 z2 : State) → N x2 z2 → Alike (give_found x0 x1 x2) (give_found x0 x1 z2)
+give_found_a extra None s s' near = ended (Is Undefined) s s' near
+give_found_a extra (Some t) s s' near = give_page_text_a extra t s s' near
+
+-- no method that shows a text looks at functions; one is named, and `w` are all others
+show_bare : (w : ReadNative) (ns : List ℕ) (s : State) → Alike (show w ns s) (show w ns (bare s))
+show_bare GetValue [] s = give_found_a (shown_extra GetValue s []) (shown GetValue s []) s (bare s) (itself s)
+show_bare GetValue (n ∷ ns) s = give_found_a (shown_extra GetValue s (n ∷ ns)) (shown GetValue s (n ∷ ns)) s (bare s) (itself s)
+show_bare w [] s = give_found_a (shown_extra w s []) (shown w s []) s (bare s) (itself s)
+show_bare w (n ∷ ns) s = give_found_a (shown_extra w s (n ∷ ns)) (shown w s (n ∷ ns)) s (bare s) (itself s)
+
+show_a : (w : ReadNative) (ns : List ℕ) (s s' : State) → N s s' → Alike (show w ns s) (show w ns s')
+show_a w ns s s' near = moved (λ y. Alike (show w ns s) (show w ns y)) s s' near (show_bare w ns s)
 
 pub read_method_a : (x0 : ReadNative) (x1 : List ℕ) (x2 : List Value) (x3 z3 : State) → N x3 z3 → Alike (read_method x0 x1 x2 x3) (read_method x0 x1 x2 z3)
 read_method_a Query ns vs s s' near = query_a ns (nth 0 vs) s s' near
-read_method_a GetValue ns vs s s' near = get_value_a ns s s' near
 read_method_a GetValues ns vs s s' near = get_values_a ns s s' near
 read_method_a GetStyle ns vs s s' near = get_style_a ns (nth 0 vs) s s' near
-read_method_a GetClass ns vs s s' near = get_attribute_a ns (codes "class") s s' near
-read_method_a GetTitle ns vs s s' near = get_attribute_a ns (codes "title") s s' near
 read_method_a GetCheck ns vs s s' near = charged (length ns) s s' _ _ near (got (λ t. Truth (is_checked t ns)) (λ t. ap Truth (checked_bare t ns)) s s' near)
 read_method_a Explode ns vs s s' near = explode_a ns s s' near
 read_method_a Count ns vs s s' near = charged (length ns) s s' _ _ near (ended _ s s' near)
 read_method_a GetParent ns vs s s' near = get_parent_a ns s s' near
-read_method_a GetTagName ns vs s s' near = get_tag_name_a ns s s' near
-read_method_a GetMark ns vs s s' near = moved (λ y. Alike (give_page_text (length ns) (first_mark s ns) s) (give_page_text (length ns) (first_mark y ns) y)) s s' near
-    (subst (λ (t : List ℕ). Alike (give_page_text (length ns) (first_mark s ns) s) (give_page_text (length ns) t (bare s))) (sym (mark_bare s ns)) (give_page_text_a (length ns) (first_mark s ns) s (bare s) (itself s)))
+read_method_a w ns vs s s' near = show_a w ns s s' near
 
 pub read_native_a : (x0 : ReadNative) (x1 : Option Value) (x2 : List Value) (x3 : ℕ) (x4 z4 : State) → N x4 z4 → Alike (read_native x0 x1 x2 x3 x4) (read_native x0 x1 x2 x3 z4)
 read_native_a w this vs d s s' near = on_bunch_a this s s' _ _ near (λ ns. read_method_a w ns vs s s' near)

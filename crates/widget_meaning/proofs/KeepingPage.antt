@@ -17,7 +17,7 @@ use Rattle.widget_meaning.specs.OwnState.{State, with_new_cell, new_array, new_b
 use Rattle.widget_meaning.specs.Costs.{cost, give, with_counts}
 use Rattle.widget_meaning.specs.Plan.{Plan}
 use Rattle.permitted_table.specs.declared.native.ReadNative.{ReadNative}
-use Rattle.permitted_table.specs.declared.native.ReadNative.TheVariants.{Query, GetValue, GetValues, GetStyle, GetClass, GetTitle, GetCheck, Explode, Count, GetParent, GetTagName, GetMark}
+use Rattle.permitted_table.specs.declared.native.ReadNative.TheVariants.{Query, GetValues, GetStyle, GetCheck, Explode, Count, GetParent}
 use Rattle.permitted_table.specs.declared.native.WriteNative.{WriteNative}
 use Rattle.permitted_table.specs.declared.native.WriteNative.TheVariants.{Append, Remove, Empty, Replace, SetValue, SetStyle, SetClass, SetTitle, SetCheck, SetEnabled, Focus, Blur, On, Off, Fire, Each, SetMark, Protect}
 use Rattle.permitted_table.specs.declared.native.DomNative.{DomNative}
@@ -25,7 +25,7 @@ use Rattle.permitted_table.specs.declared.native.DomNative.TheVariants.{DomQuery
 use Rattle.permitted_table.specs.declared.native.NativeId.TheVariants as native
 use Rattle.widget_meaning.specs.PageForms.{root, next_node, with_room, with_node, want_all, is_input, is_text_node, want_one, want_bunch, with_label}
 use Rattle.query_grammar.specs.Steps.{Step}
-use Rattle.widget_meaning.specs.BunchReads.{bunches_from, query, read_native, give_page_text, query_steps, get_value, get_values, get_attribute, get_style, explode, get_parent, get_tag_name, read_method, exploded, with_bunch}
+use Rattle.widget_meaning.specs.BunchReads.{bunches_from, query, read_native, give_page_text, query_steps, get_values, get_style, explode, get_parent, shown, shown_extra, give_found, read_method, exploded, with_bunch}
 use Rattle.widget_meaning.specs.BunchWrites.{appended, write_native, alter, alter_for, append_trees, append, remove, replace, set_value, set_style, set_attribute, set_flag, focus, blur, listen, hush, fired, fire, each_called, each, write_method, with_copies, emptied, relabel, with_text_node, valued, alter_each, change_kept}
 use Rattle.widget_meaning.specs.DomNatives.{dom_native, give_node, dom_tag, append_to_root, dom_append}
 use Rattle.widget_meaning.specs.Natives.{run_native}
@@ -152,15 +152,8 @@ module _ (inv : Invariant) (many : ℕ) where
   pub query_r : (x0 : List ℕ) (x1 : Value) (x2 : State) → R inv many x2 → Keeps inv many ByValue (query x0 x1 x2)
   query_r ns v s hr = search (want_primitives_r, query_steps_r)
 
-  pub get_value_r : (x0 : List ℕ) (x1 : State) → R inv many x1 → Keeps inv many ByValue (get_value x0 x1)
-  get_value_r [] s hr = search (gave)
-  get_value_r (n ∷ ns) s hr = search (give_page_text_r)
-
   pub get_values_r : (x0 : List ℕ) (x1 : State) → R inv many x1 → Keeps inv many ByValue (get_values x0 x1)
   get_values_r ns s hr = search (charged, give_texts_r)
-
-  pub get_attribute_r : (x0 : List ℕ) (x1 : List ℕ) (x2 : State) → R inv many x2 → Keeps inv many ByValue (get_attribute x0 x1 x2)
-  get_attribute_r ns x s hr = search (give_page_text_r)
 
   pub get_style_r : (x0 : List ℕ) (x1 : Value) (x2 : State) → R inv many x2 → Keeps inv many ByValue (get_style x0 x1 x2)
   get_style_r ns p s hr = search (want_primitives_r, wanted, give_page_text_r)
@@ -171,23 +164,19 @@ module _ (inv : Invariant) (many : ℕ) where
   pub get_parent_r : (x0 : List ℕ) (x1 : State) → R inv many x1 → Keeps inv many ByValue (get_parent x0 x1)
   get_parent_r ns s hr = search (want_all_r, charged, make_bunch_r, gave)
 
-  pub get_tag_name_r : (x0 : List ℕ) (x1 : State) → R inv many x1 → Keeps inv many ByValue (get_tag_name x0 x1)
-  get_tag_name_r [] s hr = search (gave)
-  get_tag_name_r (n ∷ ns) s hr = search (give_page_text_r)
+  pub give_found_r : (x0 : ℕ) (x1 : Option (List ℕ)) (x2 : State) → R inv many x2 → Keeps inv many ByValue (give_found x0 x1 x2)
+  give_found_r extra None s hr = search (gave)
+  give_found_r extra (Some t) s hr = search (give_page_text_r)
 
   pub read_method_r : (x0 : ReadNative) (x1 : List ℕ) (x2 : List Value) (x3 : State) → R inv many x3 → Keeps inv many ByValue (read_method x0 x1 x2 x3)
   read_method_r Query ns vs s hr = search (query_r)
-  read_method_r GetValue ns vs s hr = search (get_value_r)
   read_method_r GetValues ns vs s hr = search (get_values_r)
   read_method_r GetStyle ns vs s hr = search (get_style_r)
-  read_method_r GetClass ns vs s hr = search (get_attribute_r)
-  read_method_r GetTitle ns vs s hr = search (get_attribute_r)
   read_method_r GetCheck ns vs s hr = search (charged, gave)
   read_method_r Explode ns vs s hr = search (explode_r)
   read_method_r Count ns vs s hr = search (charged, gave)
   read_method_r GetParent ns vs s hr = search (get_parent_r)
-  read_method_r GetTagName ns vs s hr = search (get_tag_name_r)
-  read_method_r GetMark ns vs s hr = search (give_page_text_r)
+  read_method_r w ns vs s hr = give_found_r (shown_extra w s ns) (shown w s ns) s hr
 
   pub read_native_r : (x0 : ReadNative) (x1 : Option Value) (x2 : List Value) (x3 : ℕ) (x4 : State) → R inv many x4 → Keeps inv many ByValue (read_native x0 x1 x2 x3 x4)
   read_native_r w this vs d s hr = search (on_bunch_r, read_method_r)

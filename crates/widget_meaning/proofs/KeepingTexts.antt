@@ -1,11 +1,11 @@
 -- The methods of texts keep an invariant.
 
-use Rattle.std.specs.Prelude.{ℕ, List, Option}
+use Rattle.std.specs.Prelude.{ℕ, List, Option, length}
 use Rattle.permitted_table.specs.declared.native.TextNative.{TextNative}
-use Rattle.permitted_table.specs.declared.native.TextNative.TheVariants.{CharAt, CharCodeAt, TextConcat, IndexOf, LastIndexOf, TextSlice, Substring, Split, ToLowerCase, ToUpperCase}
+use Rattle.permitted_table.specs.declared.native.TextNative.TheVariants.{CharAt, CharCodeAt, TextConcat, IndexOf, LastIndexOf, TextSlice, Substring, Split}
 use Rattle.widget_meaning.specs.Values.{Value, Undefined}
 use Rattle.widget_meaning.specs.OwnState.{State}
-use Rattle.widget_meaning.specs.TextNatives.{char_at, char_code_at, text_concat, index_of, last_index_of, text_slice, substring, split, text_method, text_native}
+use Rattle.widget_meaning.specs.TextNatives.{char_at, char_code_at, text_concat, index_of, last_index_of, text_slice, substring, split, made_of, text_method, text_native}
 use Rattle.widget_meaning.specs.Ways.{ByValue}
 use Rattle.widget_meaning.specs.Keeps.{Invariant, Keeps}
 use Rattle.widget_meaning.proofs.Keeping.{charged, R, gave}
@@ -46,8 +46,7 @@ module _ (inv : Invariant) (many : ℕ) where
   text_method_r TextSlice t vs s hr = search (text_slice_r)
   text_method_r Substring t vs s hr = search (substring_r)
   text_method_r Split t vs s hr = search (split_r)
-  text_method_r ToLowerCase t vs s hr = search (give_text_r)
-  text_method_r ToUpperCase t vs s hr = search (give_text_r)
+  text_method_r w t vs s hr = give_text_r inv many (length t) (made_of w t) s hr
 
   pub text_native_r : (x0 : TextNative) (x1 : Option Value) (x2 : List Value) (x3 : State) → R inv many x3 → Keeps inv many ByValue (text_native x0 x1 x2 x3)
   text_native_r w this vs s hr = search (on_text_r, text_method_r)

@@ -44,23 +44,18 @@ query ns v s = want_primitives (v ∷ []) s (query_steps (read_query (to_text v)
 abbrev pub value_of : State → ℕ → List ℕ
 value_of s n = if is_input s n then unwrap_or (attribute s n (codes "value")) [] else texts_of (subtree n s.own.forest)
 
--- `getValue()`: the extra is the number of nodes and the units
-abbrev pub get_value : List ℕ → State → Plan
-get_value [] s = give Undefined s
-get_value (n ∷ ns) s = give_page_text (length (n ∷ ns) + length (value_of s n)) (value_of s n) s
-
 -- `getValues()`: the extra is the number of nodes and the units
 abbrev pub get_values : List ℕ → State → Plan
 get_values ns s = charge (length ns + sum_by length (map (value_of s) ns)) s (give_texts (map (value_of s) ns) s)
 
--- an attribute of the first node, or empty
-abbrev pub first_attribute : State → List ℕ → List ℕ → List ℕ
-first_attribute s [] x = []
-first_attribute s (n ∷ ns) x = unwrap_or (attribute s n x) []
+-- an attribute of the first node
+abbrev pub first_found : State → List ℕ → List ℕ → Option (List ℕ)
+first_found s [] x = None
+first_found s (n ∷ ns) x = attribute s n x
 
--- `getClass()` and `getTitle()`
-abbrev pub get_attribute : List ℕ → List ℕ → State → Plan
-get_attribute ns x s = give_page_text (length ns) (first_attribute s ns x) s
+-- the same, or empty
+abbrev pub first_attribute : State → List ℕ → List ℕ → List ℕ
+first_attribute s ns x = unwrap_or (first_found s ns x) []
 
 -- `getStyle(p)`: E4 for a property that is not listed
 abbrev pub get_style : List ℕ → Value → State → Plan
@@ -70,8 +65,7 @@ get_style ns p s =
 
 -- whether the first node has `checked`
 abbrev pub is_checked : State → List ℕ → Bool
-is_checked s [] = false
-is_checked s (n ∷ ns) = is_some (attribute s n (codes "checked"))
+is_checked s ns = is_some (first_found s ns (codes "checked"))
 
 -- the objects from this number on, one for each node
 abbrev pub bunches_from : ℕ → List ℕ → List Value
@@ -103,30 +97,56 @@ get_parent ns s =
     want_all (has_open_parent s) ns s
     (charge (length ns) s (make_bunch (once [] (filter_map (λ n. parent n s.own.forest) ns)) s give))
 
--- `getTagName()`: the first node's tag, or `#text`
-abbrev pub get_tag_name : List ℕ → State → Plan
-get_tag_name [] s = give Undefined s
-get_tag_name (n ∷ ns) s = give_page_text (length (n ∷ ns)) (if is_text_node s n then codes "#text" else tag_of s n) s
-
 -- the first node's mark, or empty
 abbrev pub first_mark : State → List ℕ → List ℕ
 first_mark s [] = []
 first_mark s (n ∷ ns) = (kept_at s n).mark
 
--- each method on its nodes
+-- the value of the first node
+abbrev pub first_value : State → List ℕ → Option (List ℕ)
+first_value s [] = None
+first_value s (n ∷ ns) = Some (value_of s n)
+
+-- the first node's tag, or `#text`
+abbrev pub first_tag : State → List ℕ → Option (List ℕ)
+first_tag s [] = None
+first_tag s (n ∷ ns) = Some (if is_text_node s n then codes "#text" else tag_of s n)
+
+-- ## Methods that show a text of the first node
+
+-- the text that a method shows; where there is none, undefined
+abbrev pub shown : ReadNative → State → List ℕ → Option (List ℕ)
+shown GetValue s ns = first_value s ns
+shown GetClass s ns = Some (first_attribute s ns (codes "class"))
+shown GetTitle s ns = Some (first_attribute s ns (codes "title"))
+shown GetTagName s ns = first_tag s ns
+shown GetMark s ns = Some (first_mark s ns)
+shown w s ns = None
+
+-- the extra of such a method: of `getValue()` the number of nodes and the units
+abbrev pub shown_extra : ReadNative → State → List ℕ → ℕ
+shown_extra GetValue s ns = length ns + length (unwrap_or (first_value s ns) [])
+shown_extra w s ns = length ns
+
+-- a text that is shown is made and given with this extra; undefined costs no more
+abbrev pub give_found : ℕ → Option (List ℕ) → State → Plan
+give_found extra None s = give Undefined s
+give_found extra (Some t) s = give_page_text extra t s
+
+-- what such a method gives
+abbrev pub show : ReadNative → List ℕ → State → Plan
+show w ns s = give_found (shown_extra w s ns) (shown w s ns) s
+
+-- each method on its nodes; the others show a text
 abbrev pub read_method : ReadNative → List ℕ → List Value → State → Plan
 read_method Query ns vs s = query ns (nth 0 vs) s
-read_method GetValue ns vs s = get_value ns s
 read_method GetValues ns vs s = get_values ns s
 read_method GetStyle ns vs s = get_style ns (nth 0 vs) s
-read_method GetClass ns vs s = get_attribute ns (codes "class") s
-read_method GetTitle ns vs s = get_attribute ns (codes "title") s
 read_method GetCheck ns vs s = charge (length ns) s (give (Truth (is_checked s ns)) s)
 read_method Explode ns vs s = explode ns s
 read_method Count ns vs s = charge (length ns) s (give (Num (pos (length ns))) s)
 read_method GetParent ns vs s = get_parent ns s
-read_method GetTagName ns vs s = get_tag_name ns s
-read_method GetMark ns vs s = give_page_text (length ns) (first_mark s ns) s
+read_method w ns vs s = show w ns s
 
 -- a method of a Bunch that reads
 abbrev pub read_native : ReadNative → Option Value → List Value → ℕ → State → Plan

@@ -103,7 +103,13 @@ split t x s =
     (charge (length t + (length (to_text x) + sum_by length (pieces (to_text x) t))) s
     (give_texts (pieces (to_text x) t) s))
 
--- the methods of a text
+-- what a method makes of a text by itself, without arguments
+abbrev pub made_of : TextNative → List ℕ → List ℕ
+made_of ToLowerCase t = str_to_ascii_lowercase t
+made_of ToUpperCase t = str_to_ascii_uppercase t
+made_of w t = t
+
+-- the methods of a text; the others make one of it by itself
 abbrev pub text_method : TextNative → List ℕ → List Value → State → Plan
 text_method CharAt t vs s = char_at t (nth 0 vs) s
 text_method CharCodeAt t vs s = char_code_at t (nth 0 vs) s
@@ -113,8 +119,7 @@ text_method LastIndexOf t vs s = last_index_of t (nth 0 vs) (nth 1 vs) s
 text_method TextSlice t vs s = text_slice t (nth 0 vs) (nth 1 vs) s
 text_method Substring t vs s = substring t (nth 0 vs) (nth 1 vs) s
 text_method Split t vs s = split t (nth 0 vs) s
-text_method ToLowerCase t vs s = give_text (length t) (str_to_ascii_lowercase t) s
-text_method ToUpperCase t vs s = give_text (length t) (str_to_ascii_uppercase t) s
+text_method w t vs s = give_text (length t) (made_of w t) s
 
 -- a text as receiver
 abbrev pub text_native : TextNative → Option Value → List Value → State → Plan
