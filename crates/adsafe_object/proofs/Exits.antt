@@ -13,7 +13,7 @@ use Rattle.js_values.specs.declared.outcome.NativeOut.TheVariants as native
 use Rattle.js_values.proofs.Answered.{charged_answers, free_answers, lacking_answers}
 use Rattle.native_common.specs.Meets.{Meets}
 use Rattle.json_text.specs.Confined.{MeetsConfined}
-use Rattle.adsafe_object.specs.Ends.{EndsConfined, EndsNoted, MeetsNoted}
+use Rattle.adsafe_object.specs.Ends.{EndsConfined, EndsNoted, MeetsNoted, MeetsSilent}
 use Rattle.adsafe_object.specs.Notes.{Notes, noted}
 
 module _ (w waiting : ℕ) (old new : Cells) (before after : Notes) where
@@ -61,46 +61,56 @@ noted_lacking w waiting old notes n plan had lt = record {
 pub noted_refused : (w waiting : ℕ) (old : Cells) (notes : Notes) (n : ℕ) (plan : ℕ → State → Plan) (had has : Fuel) → had.left < n → has ≡ had → MeetsNoted w waiting old old had has notes notes (λ d s. charge n s (plan d s)) native.OutOfFuel
 noted_refused w waiting old notes n plan had has lt same = subst (λ (f : Fuel). MeetsNoted w waiting old old had f notes notes (λ d s. charge n s (plan d s)) native.OutOfFuel) (sym same) (noted_lacking w waiting old notes n plan had lt)
 
-module _ (w waiting : ℕ) (old new : Cells) (had has : Fuel) (log : List (List ℕ)) (posts : List (List ℕ × List ℕ)) (plan : ℕ → State → Plan) (o : NativeOut) where
-  abbrev with_timer : Option (ℕ × ℤ) → Notes
-  with_timer asked = record { log = log; posts = posts; asked = asked }
+module _ (w : ℕ) (old new : Cells) (had has : Fuel) (plan : ℕ → State → Plan) (o : NativeOut) where
+  -- a native that knows the store alone keeps no note
+  pub meets_silent : Meets w old new had has plan o → MeetsSilent w old new had has plan o
+  meets_silent h = record { answer = λ fs r node d confined. h.answer fs r node d; fine = λ fs confined. h.fine; spent = h.spent; unpaid = h.unpaid; kept = h.kept }
 
-  -- a native that changes no notes
-  pub meets_keeps : (asked : Option (ℕ × ℤ)) → asked ≡ None → Meets w old new had has plan o → MeetsNoted w waiting old new had has (with_timer None) (with_timer asked) plan o
-  meets_keeps asked none h = subst (λ a. MeetsNoted w waiting old new had has (with_timer None) (with_timer a) plan o) (sym none) (record {
-    answer = λ fs r node d confined few. h.answer fs (noted w old.cells (with_timer None) r) node d;
-    fine = λ fs confined. h.fine;
-    spent = h.spent;
-    unpaid = λ f. ((h.unpaid f).0, (h.unpaid f).1, refl);
-    kept = h.kept;
-  })
-
-  -- the same where the widget is confined, and no fuel is asked for
-  pub ends_keeps : (asked : Option (ℕ × ℤ)) → asked ≡ None → has ≡ had → EndsConfined w old new plan o → MeetsNoted w waiting old new had has (with_timer None) (with_timer asked) plan o
-  ends_keeps asked none same h = subst (λ a. MeetsNoted w waiting old new had has (with_timer None) (with_timer a) plan o) (sym none) (record {
-    answer = λ fs r node d confined few. free_answers (seen w new.cells) node d (image fs (noted w old.cells (with_timer None) r) w old) (image fs (noted w old.cells (with_timer None) r) w new) o (plan d (image fs (noted w old.cells (with_timer None) r) w old)) had.left has.left (ap (λ f. f.left) (sym same)) (h.leaves fs (noted w old.cells (with_timer None) r) node d confined);
+  -- one that asks for no fuel
+  ends_silent : has ≡ had → EndsConfined w old new plan o → MeetsSilent w old new had has plan o
+  ends_silent same h = record {
+    answer = λ fs r node d confined. free_answers (seen w new.cells) node d (image fs r w old) (image fs r w new) o (plan d (image fs r w old)) had.left has.left (ap (λ f. f.left) (sym same)) (h.leaves fs r node d confined);
     fine = h.fine;
     spent = ap (λ f. f.left + f.spent) same;
     unpaid = λ f. absurd (h.paid f);
     kept = h.kept;
-  })
+  }
 
-  -- the same of a plan that is the same
-  pub meets_run : (asked : Option (ℕ × ℤ)) → asked ≡ None → (p : ℕ → State → Plan) → ((d : ℕ) (s : State) → p d s ≡ plan d s) → Meets w old new had has plan o → MeetsNoted w waiting old new had has (with_timer None) (with_timer asked) p o
-  meets_run asked none p e h = noted_same w waiting old new (with_timer None) (with_timer asked) p plan o had has (λ fs r d. e d (image fs r w old)) (meets_keeps asked none h)
+  -- one whose widget may hold its answer anyhow
+  confined_silent : MeetsConfined w old new had has plan o → MeetsSilent w old new had has plan o
+  confined_silent h = record { answer = h.answer; fine = λ fs confined. h.fine; spent = h.spent; unpaid = h.unpaid; kept = h.kept }
 
-  pub confined_run : (asked : Option (ℕ × ℤ)) → asked ≡ None → (p : ℕ → State → Plan) → ((d : ℕ) (s : State) → p d s ≡ plan d s) → has ≡ had → EndsConfined w old new plan o → MeetsNoted w waiting old new had has (with_timer None) (with_timer asked) p o
-  confined_run asked none p e same h = noted_same w waiting old new (with_timer None) (with_timer asked) p plan o had has (λ fs r d. e d (image fs r w old)) (ends_keeps asked none same h)
-
-  -- the same of a native that asks that the widget is confined
-  pub text_run : (asked : Option (ℕ × ℤ)) → asked ≡ None → (p : ℕ → State → Plan) → ((d : ℕ) (s : State) → p d s ≡ plan d s) → MeetsConfined w old new had has plan o → MeetsNoted w waiting old new had has (with_timer None) (with_timer asked) p o
-  text_run asked none p e h = noted_same w waiting old new (with_timer None) (with_timer asked) p plan o had has (λ fs r d. e d (image fs r w old)) (subst (λ a. MeetsNoted w waiting old new had has (with_timer None) (with_timer a) plan o) (sym none) (record {
-    answer = λ fs r node d confined few. h.answer fs (noted w old.cells (with_timer None) r) node d confined;
-    fine = λ fs confined. h.fine;
+  -- a plan that is the same
+  silent_same : (p : ℕ → State → Plan) → ((d : ℕ) (s : State) → p d s ≡ plan d s) → MeetsSilent w old new had has plan o → MeetsSilent w old new had has p o
+  silent_same p e h = record {
+    answer = λ fs r node d confined. subst (λ (x : Plan). Answers (seen w new.cells) node d x (image fs r w old) o (image fs r w new) had.left has.left) (sym (e d (image fs r w old))) (h.answer fs r node d confined);
+    fine = h.fine;
     spent = h.spent;
-    unpaid = λ f. ((h.unpaid f).0, (h.unpaid f).1, refl);
+    unpaid = h.unpaid;
     kept = h.kept;
-  }))
+  }
+
+  pub meets_run : (p : ℕ → State → Plan) → ((d : ℕ) (s : State) → p d s ≡ plan d s) → Meets w old new had has plan o → MeetsSilent w old new had has p o
+  meets_run p e h = silent_same p e (meets_silent h)
+
+  pub confined_run : (p : ℕ → State → Plan) → ((d : ℕ) (s : State) → p d s ≡ plan d s) → has ≡ had → EndsConfined w old new plan o → MeetsSilent w old new had has p o
+  confined_run p e same h = silent_same p e (ends_silent same h)
+
+  pub text_run : (p : ℕ → State → Plan) → ((d : ℕ) (s : State) → p d s ≡ plan d s) → MeetsConfined w old new had has plan o → MeetsSilent w old new had has p o
+  text_run p e h = silent_same p e (confined_silent h)
+
+  -- it leaves the notes as they are
+  pub silent_keeps : (waiting : ℕ) (log : List (List ℕ)) (posts : List (List ℕ × List ℕ)) (asked : Option (ℕ × ℤ)) → asked ≡ None → MeetsSilent w old new had has plan o
+      → MeetsNoted w waiting old new had has (record { log = log; posts = posts; asked = None }) (record { log = log; posts = posts; asked = asked }) plan o
+  silent_keeps waiting log posts asked none h =
+      let notes : Notes = record { log = log; posts = posts; asked = None } in
+      subst (λ a. MeetsNoted w waiting old new had has notes (record { log = log; posts = posts; asked = a }) plan o) (sym none) (record {
+        answer = λ fs r node d confined few. h.answer fs (noted w old.cells notes r) node d confined;
+        fine = h.fine;
+        spent = h.spent;
+        unpaid = λ f. ((h.unpaid f).0, (h.unpaid f).1, refl);
+        kept = h.kept;
+      })
 
 -- a native that changes the log or the posts, and asks for no timer
 pub noted_run : (w waiting : ℕ) (old new : Cells) (had has : Fuel) (log more : List (List ℕ)) (posts kept : List (List ℕ × List ℕ)) (plan : ℕ → State → Plan) (o : NativeOut) (asked : Option (ℕ × ℤ)) → asked ≡ None

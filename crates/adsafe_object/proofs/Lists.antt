@@ -30,7 +30,7 @@ use Rattle.js_image.specs.declared.outcome.StopCause.TheVariants as cause
 use Rattle.js_image.specs.Plans.{meant_cause}
 use Rattle.native_common.proofs.Seen.{nth_seen}
 use Rattle.adsafe_object.specs.Names.{too_many}
-use Rattle.adsafe_object.specs.Part.{is_part}
+use Rattle.adsafe_object.specs.Part.{is_part, keeps_note}
 
 -- more units than a widget may have
 units_stop : (vs : List Value) (n : ℕ) (s : State) → max_units < n → make_array vs n s give ≡ Halt meaning.Units s
@@ -125,3 +125,15 @@ has_own_is w cells args this which a first n part is d s = by n is (sym (ap is_p
     by : (k : PrototypeNative) → which ≡ natives.Prototype k → is_part (natives.Prototype k) ≡ true → run_native which this (all_seen w cells args) d s ≡ has_own_property this (seen w cells a) s
     by prototype.HasOwnProperty e h = here e
     by _ e h = absurd (false_true h)
+
+-- ## Natives that keep no note
+
+pub silent_else : (n : AdsafeNative) → (n ≡ native.Later → ⊥) → (n ≡ native.LogValue → ⊥) → (n ≡ native.Post → ⊥) → keeps_note (natives.Adsafe n) ≡ false
+silent_else native.Later l v p = absurd (l refl)
+silent_else native.LogValue l v p = absurd (v refl)
+silent_else native.Post l v p = absurd (p refl)
+silent_else _ l v p = refl
+
+pub part_else : (n : NativeId) → ((m : AdsafeNative) → n ≡ natives.Adsafe m → ⊥) → keeps_note n ≡ false
+part_else (natives.Adsafe m) other = absurd (other m refl)
+part_else _ other = refl

@@ -36,3 +36,12 @@ pub record MeetsNoted (w waiting : ℕ) (old new : Cells) (had has : Fuel) (befo
   pub spent : has.left + has.spent ≡ had.left + had.spent
   pub unpaid : IsOutOfFuel o → (new ≡ old) × (has ≡ had) × (after ≡ before)
   pub kept : (fs : List Forest) → Kept fs w old new
+
+-- The same of a native that keeps no note, however many timers wait.
+pub record MeetsSilent (w : ℕ) (old new : Cells) (had has : Fuel) (plan : ℕ → State → Plan) (o : NativeOut) : Type 0 where
+  pub answer : (fs : List Forest) (r : Rest) (node : ℕ → ℕ) (d : ℕ) → IsConfined fs w old
+      → Answers (seen w new.cells) node d (plan d (image fs r w old)) (image fs r w old) o (image fs r w new) had.left has.left
+  pub fine : (fs : List Forest) → IsConfined fs w old → IsFineOut w new.cells o
+  pub spent : has.left + has.spent ≡ had.left + had.spent
+  pub unpaid : IsOutOfFuel o → (new ≡ old) × (has ≡ had)
+  pub kept : (fs : List Forest) → Kept fs w old new

@@ -10,4 +10,4 @@ mod owning;
 mod properties;
 mod texts;
 
-pub use natives::call;
+pub use natives::{call, call_silent};

@@ -1,5 +1,5 @@
 //! The one call of a native.
-ghost use Rattle.std.specs.Prelude.{◌≡◌, ◌<◌, List, Option, None, true, IfOk, OnErr};
+ghost use Rattle.std.specs.Prelude.{◌≡◌, ◌<◌, List, Option, None, false, true, IfOk, OnErr};
 ghost use Rattle.js_tree.specs.Forest.{Forest};
 ghost use Rattle.store_cells.specs.Cells.{IsWidget, number_in};
 ghost use Rattle.widget_meaning.specs.AdsafeNatives.{adsafe_native};
@@ -8,8 +8,8 @@ ghost use Rattle.widget_meaning.specs.Values.{Value as Plain};
 ghost use Rattle.js_image.specs.Image.{all_seen};
 ghost use Rattle.js_image.specs.Held.{AreFine, Kept};
 ghost use Rattle.native_common.specs.Receivers.{IsReceiver, receiver};
-ghost use Rattle.adsafe_object.specs.Ends.{MeetsNoted};
-ghost use Rattle.adsafe_object.specs.Part.{is_part};
+ghost use Rattle.adsafe_object.specs.Ends.{MeetsNoted, MeetsSilent};
+ghost use Rattle.adsafe_object.specs.Part.{is_part, keeps_note};
 ghost use Rattle.adsafe_object.specs.Timers.{AsksOwn};
 
 use crate::notes::{later, log as log_value, post};
@@ -62,6 +62,34 @@ pub fn call(
     )
 }
 
+/// The same for widget `w`, of a native that keeps no note: all but `log`, `later` and `post`.
+pub fn call_silent(
+    alloc: Global,
+    w: u32,
+    which: NativeId,
+    this: &Value,
+    args: &[Value],
+    store: &mut Store,
+    meter: &mut Meter,
+) -> Result<NativeOut, Memory>
+    requires part { is_part which ≡ true }
+    requires silent { keeps_note which ≡ false }
+    requires widget { w < 32 }
+    requires receiver { IsReceiver w store.old.cells this.now }
+    requires args { AreFine w store.old.cells args.now }
+    ensures native { IfOk result (λ o. MeetsSilent w store.old store.new meter.old meter.new
+        (run_native which (receiver w store.old.cells this.now) (all_seen w store.old.cells args.now)) o) }
+    ensures memory { OnErr result ((fs : List Forest) → Kept fs w store.old store.new) }
+{
+    let absent = Value::Undefined;
+    let first = nth(args, 0, &absent);
+    match which {
+        NativeId::Adsafe(native) => silent(alloc, native, args, store, meter, w),
+        NativeId::Prototype(_) => has_own_property(alloc, store, w, this, first),
+        _ => unreachable!(),
+    }
+}
+
 // The same for a widget by its number.
 fn run(
     alloc: Global,
@@ -89,14 +117,11 @@ fn run(
         (run_native which (receiver w store.old.cells this.now) (all_seen w store.old.cells args.now)) o) }
     ensures memory { OnErr result ((fs : List Forest) → Kept fs w store.old store.new) }
 {
-    let absent = Value::Undefined;
-    let first = nth(args, 0, &absent);
     match which {
         NativeId::Adsafe(native) => of_adsafe(
             alloc, native, args, store, meter, w, log, waiting, asked, posts,
         ),
-        NativeId::Prototype(_) => has_own_property(alloc, store, w, this, first),
-        _ => unreachable!(),
+        _ => call_silent(alloc, w, which, this, args, store, meter),
     }
 }
 
@@ -128,6 +153,33 @@ fn of_adsafe(
     let first = nth(args, 0, &absent);
     let second = nth(args, 1, &absent);
     match which {
+        AdsafeNative::Later => Ok(later(store, w, first, second, waiting, asked)),
+        AdsafeNative::LogValue => log_value(alloc, store, meter, w, first, log),
+        AdsafeNative::Post => post(store, meter, w, first, second, posts),
+        _ => silent(alloc, which, args, store, meter, w),
+    }
+}
+
+// The same of a native that keeps no note.
+fn silent(
+    alloc: Global,
+    which: AdsafeNative,
+    args: &[Value],
+    store: &mut Store,
+    meter: &mut Meter,
+    w: u32,
+) -> Result<NativeOut, Memory>
+    requires silent { keeps_note (NativeId.Adsafe which) ≡ false }
+    requires widget { w < 32 }
+    requires args { AreFine w store.old.cells args.now }
+    ensures native { (this : Option Plain) → IfOk result (λ o. MeetsSilent w store.old store.new meter.old meter.new
+        (adsafe_native which this (all_seen w store.old.cells args.now)) o) }
+    ensures memory { OnErr result ((fs : List Forest) → Kept fs w store.old store.new) }
+{
+    let absent = Value::Undefined;
+    let first = nth(args, 0, &absent);
+    let second = nth(args, 1, &absent);
+    match which {
         AdsafeNative::GetProperty => get(alloc, store, w, first, second),
         AdsafeNative::SetProperty => set(alloc, store, w, first, second, nth(args, 2, &absent)),
         AdsafeNative::RemoveProperty => remove(alloc, store, w, first, second),
@@ -135,10 +187,8 @@ fn of_adsafe(
         AdsafeNative::Create => create(alloc, store, w, first),
         AdsafeNative::IsArray => Ok(is_array(store, w, first)),
         AdsafeNative::KeysOf => keys(alloc, store, meter, w, first),
-        AdsafeNative::Later => Ok(later(store, w, first, second, waiting, asked)),
-        AdsafeNative::LogValue => log_value(alloc, store, meter, w, first, log),
-        AdsafeNative::Post => post(store, meter, w, first, second, posts),
         AdsafeNative::FromJson => from_json(alloc, store, meter, w, first),
         AdsafeNative::ToJson => to_json(alloc, store, meter, w, first),
+        _ => unreachable!(),
     }
 }

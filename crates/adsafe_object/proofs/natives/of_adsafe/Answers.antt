@@ -1,60 +1,11 @@
-use Rattle.std.proofs.Common.{refl, sym, subst}
+use Rattle.std.proofs.Common.{sym, subst}
 use Rattle.std.proofs.lemmas.Result.{IfOk-weaker}
 use Rattle.js_image.specs.Image.{image}
 use Rattle.js_image.specs.Held.{IsFine}
-use Rattle.native_common.proofs.Meeting.{meets_free}
-use Rattle.adsafe_object.proofs.Exits.{confined_run, meets_run, noted_free, noted_run, noted_same, text_run}
-use Rattle.adsafe_object.proofs.Lists.{create_is, from_json_is, get_is, has_is, is_array_is, keys_is, later_is, log_is, nth_fine, post_is, remove_is, set_is, to_json_is}
+use Rattle.adsafe_object.proofs.Exits.{noted_free, noted_run, noted_same, silent_keeps}
+use Rattle.adsafe_object.proofs.Lists.{later_is, log_is, nth_fine, post_is, silent_else}
 use Rattle.adsafe_object.proofs.Timing.{unasked}
 use Rattle.adsafe_object.proofs.natives.of_adsafe.Goals as goal
-
-pub returns-in-GetProperty-clause-native : goal.returns-in-GetProperty-clause-native
-returns-in-GetProperty-clause-native c = λ this. IfOk-weaker c.get.result _ _ (λ o h.
-    confined_run c.args.w c.args.waiting c.args.store.now c.args.store.now c.args.meter.now c.args.meter.now c.args.log.now.items c.args.posts.now.items _ o c.args.asked.now c.requires.unasked _
-    (get_is c.args.w c.args.store.now.cells c.args.args.now this c.args.which c.nth-first.result.now c.nth-first.ensures c.nth-second.result.now c.nth-second.ensures c.in-GetProperty.is) refl h) c.get.ensures
-
-pub set-requires-clause-object : goal.set-requires-clause-object
-set-requires-clause-object c = subst (IsFine c.args.w c.args.store.now.cells) (sym c.nth-first.ensures) (nth_fine c.args.w c.args.store.now.cells c.args.args.now 0 c.requires.args)
-
-pub set-requires-clause-value : goal.set-requires-clause-value
-set-requires-clause-value c = subst (IsFine c.args.w c.args.store.now.cells) (sym c.nth.ensures) (nth_fine c.args.w c.args.store.now.cells c.args.args.now 2 c.requires.args)
-
-pub returns-in-SetProperty-clause-native : goal.returns-in-SetProperty-clause-native
-returns-in-SetProperty-clause-native c = λ this. IfOk-weaker c.set.result _ _ (λ o h.
-    meets_run c.args.w c.args.waiting c.args.store.now c.set.new.store c.args.meter.now c.args.meter.now c.args.log.now.items c.args.posts.now.items _ o c.args.asked.now c.requires.unasked _
-    (set_is c.args.w c.args.store.now.cells c.args.args.now this c.args.which c.nth-first.result.now c.nth-first.ensures c.nth-second.result.now c.nth-second.ensures c.nth.result.now c.nth.ensures c.in-SetProperty.is) (meets_free _ _ _ _ _ _ h)) c.set.ensures.ends
-
-pub remove-requires : goal.remove-requires
-remove-requires c = subst (IsFine c.args.w c.args.store.now.cells) (sym c.nth-first.ensures) (nth_fine c.args.w c.args.store.now.cells c.args.args.now 0 c.requires.args)
-
-pub returns-in-RemoveProperty-clause-native : goal.returns-in-RemoveProperty-clause-native
-returns-in-RemoveProperty-clause-native c = λ this. IfOk-weaker c.remove.result _ _ (λ o h.
-    meets_run c.args.w c.args.waiting c.args.store.now c.remove.new.store c.args.meter.now c.args.meter.now c.args.log.now.items c.args.posts.now.items _ o c.args.asked.now c.requires.unasked _
-    (remove_is c.args.w c.args.store.now.cells c.args.args.now this c.args.which c.nth-first.result.now c.nth-first.ensures c.nth-second.result.now c.nth-second.ensures c.in-RemoveProperty.is) (meets_free _ _ _ _ _ _ h)) c.remove.ensures.ends
-
-pub create-requires-clause-object : goal.create-requires-clause-object
-create-requires-clause-object c = subst (IsFine c.args.w c.args.store.now.cells) (sym c.nth-first.ensures) (nth_fine c.args.w c.args.store.now.cells c.args.args.now 0 c.requires.args)
-
-pub returns-in-Create-clause-native : goal.returns-in-Create-clause-native
-returns-in-Create-clause-native c = λ this. IfOk-weaker c.create.result _ _ (λ o h.
-    confined_run c.args.w c.args.waiting c.args.store.now c.create.new.store c.args.meter.now c.args.meter.now c.args.log.now.items c.args.posts.now.items _ o c.args.asked.now c.requires.unasked _
-    (create_is c.args.w c.args.store.now.cells c.args.args.now this c.args.which c.nth-first.result.now c.nth-first.ensures c.in-Create.is) refl h) c.create.ensures.ends
-
-pub is_array-requires : goal.is_array-requires
-is_array-requires c = subst (IsFine c.args.w c.args.store.now.cells) (sym c.nth-first.ensures) (nth_fine c.args.w c.args.store.now.cells c.args.args.now 0 c.requires.args)
-
-pub returns-in-IsArray-clause-native : goal.returns-in-IsArray-clause-native
-returns-in-IsArray-clause-native c = λ this.
-    meets_run c.args.w c.args.waiting c.args.store.now c.args.store.now c.args.meter.now c.args.meter.now c.args.log.now.items c.args.posts.now.items _ _ c.args.asked.now c.requires.unasked _
-    (is_array_is c.args.w c.args.store.now.cells c.args.args.now this c.args.which c.nth-first.result.now c.nth-first.ensures c.in-IsArray.is) (meets_free _ _ _ _ _ _ c.is_array.ensures)
-
-pub keys-requires-clause-object : goal.keys-requires-clause-object
-keys-requires-clause-object c = subst (IsFine c.args.w c.args.store.now.cells) (sym c.nth-first.ensures) (nth_fine c.args.w c.args.store.now.cells c.args.args.now 0 c.requires.args)
-
-pub returns-in-KeysOf-clause-native : goal.returns-in-KeysOf-clause-native
-returns-in-KeysOf-clause-native c = λ this. IfOk-weaker c.keys.result _ _ (λ o h.
-    meets_run c.args.w c.args.waiting c.args.store.now c.keys.new.store c.args.meter.now c.keys.new.meter c.args.log.now.items c.args.posts.now.items _ o c.args.asked.now c.requires.unasked _
-    (keys_is c.args.w c.args.store.now.cells c.args.args.now this c.args.which c.nth-first.result.now c.nth-first.ensures c.in-KeysOf.is) h) c.keys.ensures.native
 
 pub later-requires-clause-func : goal.later-requires-clause-func
 later-requires-clause-func c = subst (IsFine c.args.w c.args.store.now.cells) (sym c.nth-first.ensures) (nth_fine c.args.w c.args.store.now.cells c.args.args.now 0 c.requires.args)
@@ -75,56 +26,18 @@ returns-in-Post-clause-native c = λ this. IfOk-weaker c.post.result _ _ (λ o h
     noted_run c.args.w c.args.waiting c.args.store.now c.post.new.store c.args.meter.now c.post.new.meter c.args.log.now.items c.args.log.now.items c.args.posts.now.items c.post.new.posts.items _ o c.args.asked.now c.requires.unasked _
     (post_is c.args.w c.args.store.now.cells c.args.args.now this c.args.which c.nth-first.result.now c.nth-first.ensures c.nth-second.result.now c.nth-second.ensures c.in-Post.is) (h c.args.waiting c.args.log.now.items)) c.post.ensures.native
 
-pub returns-in-FromJson-clause-native : goal.returns-in-FromJson-clause-native
-returns-in-FromJson-clause-native c = λ this. IfOk-weaker c.from_json.result _ _ (λ o h.
-    meets_run c.args.w c.args.waiting c.args.store.now c.from_json.new.store c.args.meter.now c.from_json.new.meter c.args.log.now.items c.args.posts.now.items _ o c.args.asked.now c.requires.unasked _
-    (from_json_is c.args.w c.args.store.now.cells c.args.args.now this c.args.which c.nth-first.result.now c.nth-first.ensures c.in-FromJson.is) h) c.from_json.ensures.native
-
-pub has-requires : goal.has-requires
-has-requires c = subst (IsFine c.args.w c.args.store.now.cells) (sym c.nth-first.ensures) (nth_fine c.args.w c.args.store.now.cells c.args.args.now 0 c.requires.args)
-
-pub returns-in-HasProperty-clause-native : goal.returns-in-HasProperty-clause-native
-returns-in-HasProperty-clause-native c = λ this. IfOk-weaker c.has.result _ _ (λ o h.
-    confined_run c.args.w c.args.waiting c.args.store.now c.args.store.now c.args.meter.now c.args.meter.now c.args.log.now.items c.args.posts.now.items _ o c.args.asked.now c.requires.unasked _
-    (has_is c.args.w c.args.store.now.cells c.args.args.now this c.args.which c.nth-first.result.now c.nth-first.ensures c.nth-second.result.now c.nth-second.ensures c.in-HasProperty.is) refl h) c.has.ensures
-
-pub to_json-requires-clause-value : goal.to_json-requires-clause-value
-to_json-requires-clause-value c = subst (IsFine c.args.w c.args.store.now.cells) (sym c.nth-first.ensures) (nth_fine c.args.w c.args.store.now.cells c.args.args.now 0 c.requires.args)
-
-pub returns-clause-native : goal.returns-clause-native
-returns-clause-native c = λ this. IfOk-weaker c.to_json.result _ _ (λ o h.
-    text_run c.args.w c.args.waiting c.args.store.now c.to_json.new.store c.args.meter.now c.to_json.new.meter c.args.log.now.items c.args.posts.now.items _ o c.args.asked.now c.requires.unasked _
-    (to_json_is c.args.w c.args.store.now.cells c.args.args.now this c.args.which c.nth-first.result.now c.nth-first.ensures c.in-ToJson.is) h) c.to_json.ensures.native
-
-pub returns-in-GetProperty-clause-own : goal.returns-in-GetProperty-clause-own
-returns-in-GetProperty-clause-own c = unasked c.args.w c.args.store.now.cells c.args.asked.now c.requires.unasked
-
-pub returns-in-SetProperty-clause-own : goal.returns-in-SetProperty-clause-own
-returns-in-SetProperty-clause-own c = unasked c.args.w c.set.new.store.cells c.args.asked.now c.requires.unasked
-
-pub returns-in-RemoveProperty-clause-own : goal.returns-in-RemoveProperty-clause-own
-returns-in-RemoveProperty-clause-own c = unasked c.args.w c.remove.new.store.cells c.args.asked.now c.requires.unasked
-
-pub returns-in-HasProperty-clause-own : goal.returns-in-HasProperty-clause-own
-returns-in-HasProperty-clause-own c = unasked c.args.w c.args.store.now.cells c.args.asked.now c.requires.unasked
-
-pub returns-in-Create-clause-own : goal.returns-in-Create-clause-own
-returns-in-Create-clause-own c = unasked c.args.w c.create.new.store.cells c.args.asked.now c.requires.unasked
-
-pub returns-in-IsArray-clause-own : goal.returns-in-IsArray-clause-own
-returns-in-IsArray-clause-own c = unasked c.args.w c.args.store.now.cells c.args.asked.now c.requires.unasked
-
-pub returns-in-KeysOf-clause-own : goal.returns-in-KeysOf-clause-own
-returns-in-KeysOf-clause-own c = unasked c.args.w c.keys.new.store.cells c.args.asked.now c.requires.unasked
-
 pub returns-in-LogValue-clause-own : goal.returns-in-LogValue-clause-own
 returns-in-LogValue-clause-own c = unasked c.args.w c.log.new.store.cells c.args.asked.now c.requires.unasked
 
 pub returns-in-Post-clause-own : goal.returns-in-Post-clause-own
 returns-in-Post-clause-own c = unasked c.args.w c.post.new.store.cells c.args.asked.now c.requires.unasked
 
-pub returns-in-FromJson-clause-own : goal.returns-in-FromJson-clause-own
-returns-in-FromJson-clause-own c = unasked c.args.w c.from_json.new.store.cells c.args.asked.now c.requires.unasked
+pub silent-requires-clause-silent : goal.silent-requires-clause-silent
+silent-requires-clause-silent c = silent_else c.args.which c.in_default.not-Later c.in_default.not-LogValue c.in_default.not-Post
+
+pub returns-clause-native : goal.returns-clause-native
+returns-clause-native c = λ this. IfOk-weaker c.silent.result _ _ (λ o h.
+    silent_keeps c.args.w c.args.store.now c.silent.new.store c.args.meter.now c.silent.new.meter _ o c.args.waiting c.args.log.now.items c.args.posts.now.items c.args.asked.now c.requires.unasked h) (c.silent.ensures.native this)
 
 pub returns-clause-own : goal.returns-clause-own
-returns-clause-own c = unasked c.args.w c.to_json.new.store.cells c.args.asked.now c.requires.unasked
+returns-clause-own c = unasked c.args.w c.silent.new.store.cells c.args.asked.now c.requires.unasked

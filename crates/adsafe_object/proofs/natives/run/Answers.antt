@@ -1,4 +1,4 @@
-use Rattle.std.proofs.Common.{None, refl, sym, subst}
+use Rattle.std.proofs.Common.{None, sym, subst}
 use Rattle.std.specs.Prelude.{IfOk}
 use Rattle.std.proofs.lemmas.Result.{IfOk-weaker}
 use Rattle.permitted_table.specs.declared.native.NativeId.{NativeId}
@@ -6,8 +6,8 @@ use Rattle.widget_meaning.specs.Natives.{run_native}
 use Rattle.js_image.specs.Image.{all_seen}
 use Rattle.native_common.specs.Receivers.{receiver}
 use Rattle.adsafe_object.specs.Ends.{MeetsNoted}
-use Rattle.adsafe_object.proofs.Exits.{confined_run}
-use Rattle.adsafe_object.proofs.Lists.{has_own_is}
+use Rattle.adsafe_object.proofs.Exits.{silent_keeps}
+use Rattle.adsafe_object.proofs.Lists.{part_else}
 use Rattle.adsafe_object.proofs.Timing.{unasked}
 use Rattle.adsafe_object.proofs.natives.run.Goals as goal
 
@@ -20,10 +20,12 @@ returns-in-Adsafe-clause-native c =
     subst (λ (k : NativeId). IfOk c.of_adsafe.result (λ o. MeetsNoted w c.args.waiting s n.store c.args.meter.now n.meter (record { log = c.args.log.now.items; posts = c.args.posts.now.items; asked = None }) (record { log = n.log.items; posts = n.posts.items; asked = n.asked }) (run_native k this (all_seen w s.cells c.args.args.now)) o))
     (sym c.in-Adsafe.is) (c.of_adsafe.ensures.native this)
 
-pub returns-in-Prototype-clause-native : goal.returns-in-Prototype-clause-native
-returns-in-Prototype-clause-native c = IfOk-weaker c.has_own_property.result _ _ (λ o h.
-    confined_run c.args.w c.args.waiting c.args.store.now c.args.store.now c.args.meter.now c.args.meter.now c.args.log.now.items c.args.posts.now.items _ o c.args.asked.now c.requires.unasked _
-    (has_own_is c.args.w c.args.store.now.cells c.args.args.now (receiver c.args.w c.args.store.now.cells c.args.this.now) c.args.which c.nth-first.result.now c.nth-first.ensures c.in-Prototype.field-0 c.requires.part c.in-Prototype.is) refl h) c.has_own_property.ensures
+pub call_silent-requires-clause-silent : goal.call_silent-requires-clause-silent
+call_silent-requires-clause-silent c = part_else c.args.which c.in_default.not-Adsafe
 
-pub returns-in-Prototype-clause-own : goal.returns-in-Prototype-clause-own
-returns-in-Prototype-clause-own c = unasked c.args.w c.args.store.now.cells c.args.asked.now c.requires.unasked
+pub returns-in_default-clause-native : goal.returns-in_default-clause-native
+returns-in_default-clause-native c = IfOk-weaker c.call_silent.result _ _ (λ o h.
+    silent_keeps c.args.w c.args.store.now c.call_silent.new.store c.args.meter.now c.call_silent.new.meter _ o c.args.waiting c.args.log.now.items c.args.posts.now.items c.args.asked.now c.requires.unasked h) c.call_silent.ensures.native
+
+pub returns-in_default-clause-own : goal.returns-in_default-clause-own
+returns-in_default-clause-own c = unasked c.args.w c.call_silent.new.store.cells c.args.asked.now c.requires.unasked
