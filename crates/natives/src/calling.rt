@@ -1,12 +1,10 @@
 //! The one call of a native.
 ghost use Rattle.std.specs.Prelude.{◌≡◌, ◌<◌, Bool, List, Option, true, IfOk};
-ghost use Rattle.std.specs.Option.{option_map};
 ghost use Rattle.js_tree.specs.Forest.{Forest};
-ghost use Rattle.store_cells.specs.Host.{global};
 ghost use Rattle.widget_meaning.specs.Natives.{run_native};
 ghost use Rattle.js_flow.specs.Fine.{FineNative};
 ghost use Rattle.js_image.specs.Held.{AreFine, IsConfined};
-ghost use Rattle.js_image.specs.Image.{all_seen, seen};
+ghost use Rattle.js_image.specs.Image.{all_seen};
 ghost use Rattle.native_common.specs.Receivers.{IsReceiver, receiver};
 ghost use Rattle.native_image.specs.Sound.{IsSound, KeepsAll};
 ghost use Rattle.page_tree.specs.declared.page.Page.{Page as PageTree};
@@ -20,12 +18,10 @@ use code_units::{Memory, Owner, Text};
 use event_loop::Loop;
 use js_flow::NativeCall;
 use js_values::{Meter, NativeOut};
-use object_store::{CellId, NativeId, Store, Value};
+use object_store::{NativeId, Store, Value};
 use page_tree::Page;
 use std::alloc::Global;
-
-/// The place of the Global cell, which stands for no receiver.
-const GLOBAL: CellId = 0;
+use store_natives::{GLOBAL, receiver_of};
 
 /// Calls a native for widget `w`, as `js_steps` hands it out, with its unit taken: the answer is what the
 /// meaning gives at the widget's whole state, read off the store, the page, the loop, the innermost open
@@ -56,7 +52,7 @@ pub fn call(
     ensures kept { KeepsAll w store.old store.new page.old page.new around.new }
 {
     let plain = Value::Ref(GLOBAL);
-    let this = receiver_of(store, w, native, &plain);
+    let this = receiver_of(store, w, &native.this, &plain);
     call_on(
         alloc, native, this, store, meter, w, page, around, bubbled, log, posts,
     )
@@ -103,20 +99,6 @@ fn call_on(
         Room::Writes => bunch_write::call(
             alloc, which, this, args, store, meter, owner, page, around, bubbled,
         ),
-    }
-}
-
-// The receiver of a native; of a plain call what stands for none.
-fn receiver_of<'a>(store: &Store, w: u32, native: &'a NativeCall, plain: &'a Value) -> &'a Value
-    requires plain { plain.now ≡ Value.Ref global }
-    requires fine { FineNative w store.now.cells native.now }
-    ensures receiver { IsReceiver w store.now.cells result.now }
-    ensures same { receiver w store.now.cells result.now ≡ option_map (seen w store.now.cells) native.now.this }
-{
-    store.host_stays();
-    match &native.this {
-        Some(this) => this,
-        None => plain,
     }
 }
 

@@ -1,8 +1,9 @@
 //! Which room has a native.
 ghost use Rattle.std.specs.Prelude.{◌≡◌};
-ghost use Rattle.natives.specs.Rooms.{dom_room, prototype_room, read_room, room_of};
+ghost use Rattle.natives.specs.Rooms.{dom_room, read_room, room_beside, room_in_store, room_of};
 
-use object_store::{DomNative, NativeId, PrototypeNative, ReadNative};
+use object_store::{DomNative, NativeId, ReadNative};
+use store_natives::{StoreRoom, store_room};
 
 /// The rooms that have natives.
 #[derive(Clone, Copy, Drop)]
@@ -24,27 +25,31 @@ pub enum Room {
 pub(crate) fn room_of(which: NativeId) -> Room
     ensures { result ≡ room_of which }
 {
-    match which {
-        NativeId::Bubble => Room::Writes,
-        NativeId::Global(_) => Room::Texts,
-        NativeId::Math(_) => Room::Texts,
-        NativeId::Prototype(native) => prototype_room(native),
-        NativeId::Text(_) => Room::Texts,
-        NativeId::List(_) => Room::Lists,
-        NativeId::Adsafe(_) => Room::Adsafe,
-        NativeId::Dom(native) => dom_room(native),
-        NativeId::Read(native) => read_room(native),
-        NativeId::Write(_) => Room::Writes,
+    match store_room(which) {
+        Some(room) => room_in_store(room),
+        None => room_beside(which),
     }
 }
 
-fn prototype_room(which: PrototypeNative) -> Room
-    ensures { result ≡ prototype_room which }
+fn room_in_store(room: StoreRoom) -> Room
+    ensures { result ≡ room_in_store room }
+{
+    match room {
+        StoreRoom::Texts => Room::Texts,
+        StoreRoom::Lists => Room::Lists,
+        StoreRoom::Adsafe => Room::Adsafe,
+    }
+}
+
+// The room of a native that needs more than the store.
+fn room_beside(which: NativeId) -> Room
+    ensures { result ≡ room_beside which }
 {
     match which {
-        PrototypeNative::HasOwnProperty => Room::Adsafe,
-        PrototypeNative::ArrayToString => Room::Lists,
-        _ => Room::Texts,
+        NativeId::Adsafe(_) => Room::Adsafe,
+        NativeId::Dom(native) => dom_room(native),
+        NativeId::Read(native) => read_room(native),
+        _ => Room::Writes,
     }
 }
 

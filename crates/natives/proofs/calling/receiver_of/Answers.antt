@@ -1,9 +1,0 @@
-use Rattle.std.proofs.Common.{arith}
-use Rattle.natives.proofs.Receivers.{receiver_there}
-use Rattle.natives.proofs.calling.receiver_of.Goals as goal
-
-pub returns-in-Some-clause-receiver : goal.returns-in-Some-clause-receiver
-returns-in-Some-clause-receiver c = (receiver_there c.args.w c.args.store.now.cells (c.host_stays.ensures.same 0 (omega arith)) c.args.native.now.this c.in-Some.this c.in-Some.is c.requires.fine.0).0
-
-pub returns-in-Some-clause-same : goal.returns-in-Some-clause-same
-returns-in-Some-clause-same c = (receiver_there c.args.w c.args.store.now.cells (c.host_stays.ensures.same 0 (omega arith)) c.args.native.now.this c.in-Some.this c.in-Some.is c.requires.fine.0).1

@@ -1,0 +1,4 @@
+pub mod Unheard
+pub mod Receivers
+pub mod InRooms
+pub mod CarriedOut

@@ -1,0 +1,32 @@
+//! The receiver of a native.
+ghost use Rattle.std.specs.Prelude.{◌≡◌, IfSome};
+ghost use Rattle.std.specs.Option.{option_map};
+ghost use Rattle.store_cells.specs.Host.{global};
+ghost use Rattle.js_image.specs.Held.{IsFine};
+ghost use Rattle.js_image.specs.Image.{seen};
+ghost use Rattle.native_common.specs.Receivers.{IsReceiver, receiver};
+
+use object_store::{CellId, Store, Value};
+
+/// The place of the Global cell, which stands for no receiver.
+pub const GLOBAL: CellId = 0;
+
+/// The receiver of a native that widget `w` calls; of a plain call `plain`, a reference to the Global cell, which
+/// stands for none.
+pub fn receiver_of<'a>(
+    store: &Store,
+    w: u32,
+    this: &'a Option<Value>,
+    plain: &'a Value,
+) -> &'a Value
+    requires plain { plain.now ≡ Value.Ref global }
+    requires fine { IfSome this.now (IsFine w store.now.cells) }
+    ensures receiver { IsReceiver w store.now.cells result.now }
+    ensures same { receiver w store.now.cells result.now ≡ option_map (seen w store.now.cells) this.now }
+{
+    store.host_stays();
+    match this {
+        Some(this) => this,
+        None => plain,
+    }
+}
