@@ -1,4 +1,3 @@
-pub mod Cuts
 pub mod Exits
 pub mod Parsing
 pub mod PowerLaws

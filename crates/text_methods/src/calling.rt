@@ -10,16 +10,17 @@ ghost use Rattle.native_common.specs.Meets.{Meets};
 ghost use Rattle.native_common.specs.Receivers.{IsReceiver, receiver};
 ghost use Rattle.text_methods.specs.Part.{is_part};
 
+use crate::cutting::{char_at, char_code_at, cut};
+use crate::joining::concat;
+use crate::making::make_of;
 use crate::prototypes::prototype_native;
+use crate::searching::{index_of, last_index_of};
 use crate::splitting::split;
 use code_units::{Memory, Owner, Text};
 use js_values::{Fault, Meter, NativeOut};
 use native_common::nth;
 use object_store::{NativeId, Store, TextNative, Value};
-use plain_natives::{
-    char_at, char_code_at, concat, cut, global_native, in_case, index_of, last_index_of,
-    math_native,
-};
+use plain_natives::{global_native, math_native};
 use std::alloc::Global;
 
 /// A native of this crate, called by a widget: what the meaning gives at the owner's image, for every
@@ -125,7 +126,6 @@ fn text_method(
         TextNative::TextSlice => cut(alloc, t, true, first, second, store, meter, w),
         TextNative::Substring => cut(alloc, t, false, first, second, store, meter, w),
         TextNative::Split => split(alloc, t, first, store, meter, w),
-        TextNative::ToLowerCase => in_case(alloc, t, false, store, meter, w),
-        TextNative::ToUpperCase => in_case(alloc, t, true, store, meter, w),
+        _ => make_of(alloc, which, t, store, meter, w),
     }
 }

@@ -5,7 +5,8 @@ use Rattle.widget_meaning.specs.TextNatives as texts
 use Rattle.js_image.specs.Image.{all_seen, image, seen}
 use Rattle.native_common.proofs.Meeting.{meets_same, ok_meets_same}
 use Rattle.plain_natives.proofs.Exits.{nth_is, ok_at}
-use Rattle.plain_natives.specs.Choices as choices
+use Rattle.text_methods.specs.Choices as choices
+use Rattle.text_methods.proofs.Made.{others_made}
 use Rattle.text_methods.proofs.calling.text_method.Goals as goal
 
 pub returns-in-CharAt-clause-native : goal.returns-in-CharAt-clause-native
@@ -67,14 +68,10 @@ returns-in-Split-clause-native c =
     ∙ ap (λ v. texts.split c.args.t.now v (image fs r c.args.w c.args.store.now)) (nth_is c.args.w c.args.store.now.cells c.args.args.now 0 c.nth-first.result.now c.nth-first.ensures))
     c.split.ensures.native
 
-pub returns-in-ToLowerCase-clause-native : goal.returns-in-ToLowerCase-clause-native
-returns-in-ToLowerCase-clause-native c =
-    ok_meets_same c.args.w c.args.store.now c.in_case.new.store (λ d s. texts.text_method c.args.which c.args.t.now (all_seen c.args.w c.args.store.now.cells c.args.args.now) s) (λ d s. forms.give_text (length c.args.t.now) (choices.in_case false c.args.t.now) s) c.in_case.result c.args.meter.now c.in_case.new.meter
-    (λ fs r d. ap (λ x. texts.text_method x c.args.t.now (all_seen c.args.w c.args.store.now.cells c.args.args.now) (image fs r c.args.w c.args.store.now)) c.in-ToLowerCase.is)
-    c.in_case.ensures.native
-
 pub returns-clause-native : goal.returns-clause-native
 returns-clause-native c =
-    ok_meets_same c.args.w c.args.store.now c.in_case-in-ToUpperCase.new.store (λ d s. texts.text_method c.args.which c.args.t.now (all_seen c.args.w c.args.store.now.cells c.args.args.now) s) (λ d s. forms.give_text (length c.args.t.now) (choices.in_case true c.args.t.now) s) c.in_case-in-ToUpperCase.result c.args.meter.now c.in_case-in-ToUpperCase.new.meter
-    (λ fs r d. ap (λ x. texts.text_method x c.args.t.now (all_seen c.args.w c.args.store.now.cells c.args.args.now) (image fs r c.args.w c.args.store.now)) c.in-ToUpperCase.is)
-    c.in_case-in-ToUpperCase.ensures.native
+    let vs = all_seen c.args.w c.args.store.now.cells c.args.args.now in
+    let d = c.in_default in
+    ok_meets_same c.args.w c.args.store.now c.make_of.new.store (λ d s. texts.text_method c.args.which c.args.t.now vs s) (λ d s. forms.give_text (length c.args.t.now) (texts.made_of c.args.which c.args.t.now) s) c.make_of.result c.args.meter.now c.make_of.new.meter
+    (λ fs r e. others_made c.args.which d.not-CharAt d.not-CharCodeAt d.not-TextConcat d.not-IndexOf d.not-LastIndexOf d.not-TextSlice d.not-Substring d.not-Split c.args.t.now vs (image fs r c.args.w c.args.store.now))
+    c.make_of.ensures.native

@@ -17,8 +17,8 @@ use Rattle.std.proofs.Common.{rules}
 use Rattle.std.specs.Prelude.{nat_le}
 use Rattle.std.specs.List.{filter, last_or}
 use Rattle.widget_meaning.specs.OwnState.{State}
-use Rattle.plain_natives.proofs.Small.{small_fine, small_seen}
-use Rattle.plain_natives.proofs.searching.last_index_of.Goals as goal
+use Rattle.text_methods.proofs.Small.{small_fine, small_seen}
+use Rattle.text_methods.proofs.searching.last_index_of.Goals as goal
 
 pub returns-in_default : goal.returns-in_default
 returns-in_default c =

@@ -11,7 +11,7 @@ use Rattle.native_common.proofs.Meeting.{ends_same, meets_charged, meets_same}
 use Rattle.plain_natives.proofs.Exits.{wants}
 use Rattle.std.proofs.Common.{◌++◌, length-append}
 use Rattle.std.specs.List.{flat_map}
-use Rattle.plain_natives.proofs.joining.concat.Goals as goal
+use Rattle.text_methods.proofs.joining.concat.Goals as goal
 
 pub returns-in_ok-text-in-Ok-clause-native : goal.returns-in_ok-text-in-Ok-clause-native
 returns-in_ok-text-in-Ok-clause-native c =

@@ -8,11 +8,11 @@ use Rattle.js_values.specs.declared.outcome.NativeOut.TheVariants as native
 use Rattle.js_image.specs.declared.outcome.StopCause.TheVariants as cause
 use Rattle.native_common.proofs.Meeting.{ends_here}
 use Rattle.plain_natives.proofs.Exits.{charged_as, numbered, numbered_not, stops, wants_one}
-use Rattle.plain_natives.proofs.Small.{small_fine, small_seen}
+use Rattle.text_methods.proofs.Small.{small_fine, small_seen}
 use mir.Val.{of_z, to_z}
 use mir.Syntax.{w64}
 use Rattle.std.proofs.Common.{rules}
-use Rattle.plain_natives.proofs.cutting.char_code_at.Goals as goal
+use Rattle.text_methods.proofs.cutting.char_code_at.Goals as goal
 
 pub returns-in-Some : goal.returns-in-Some
 returns-in-Some c =

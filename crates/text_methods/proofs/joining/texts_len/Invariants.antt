@@ -4,7 +4,7 @@ use Rattle.store_cells.specs.Cells.{PlainCell}
 use Rattle.widget_meaning.specs.Values.{to_text}
 use Rattle.js_image.specs.Image.{all_seen}
 use Rattle.native_common.specs.Numbers.{counted}
-use Rattle.plain_natives.proofs.joining.texts_len.Given as goal
+use Rattle.text_methods.proofs.joining.texts_len.Given as goal
 
 abbrev pub invariant-loop-v : goal.invariant-loop-v
 invariant-loop-v l = record {

@@ -8,7 +8,7 @@ use Rattle.std.specs.List.{flat_map}
 use Rattle.std.proofs.Common.{◌++◌, append_assoc}
 use Rattle.std.proofs.lemmas.List.{append-nil, at_drop_all}
 use Rattle.store_cells.specs.Cells.{PlainCell}
-use Rattle.plain_natives.proofs.joining.joined.Goals as goal
+use Rattle.text_methods.proofs.joining.joined.Goals as goal
 
 pub loop-v-preserved : goal.loop-v-preserved
 loop-v-preserved c =

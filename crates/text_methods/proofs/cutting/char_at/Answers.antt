@@ -12,7 +12,7 @@ use Rattle.std.proofs.lemmas.Result.{IfOk-weaker}
 use mir.Val.{of_z, to_z}
 use mir.Syntax.{w64}
 use Rattle.std.proofs.Common.{rules}
-use Rattle.plain_natives.proofs.cutting.char_at.Goals as goal
+use Rattle.text_methods.proofs.cutting.char_at.Goals as goal
 
 pub returns-in-Some-clause-native : goal.returns-in-Some-clause-native
 returns-in-Some-clause-native c =

@@ -1,29 +1,26 @@
-//! Parts of a text (ECMA-262 3rd edition, 15.5.4.4, 15.5.4.5, 15.5.4.13, 15.5.4.15 to 15.5.4.18).
+//! Parts of a text (ECMA-262 3rd edition, 15.5.4.4, 15.5.4.5, 15.5.4.13, 15.5.4.15).
 ghost use Rattle.std.specs.Prelude.{◌≡◌, ◌<◌, ◌≤◌, ℕ, List, IfOk, OnErr, length, pos, slice_range};
-ghost use Rattle.std.specs.Str.{str_to_ascii_lowercase, str_to_ascii_uppercase};
-ghost use Rattle.std.specs.Char as chars;
 ghost use Rattle.js_tree.specs.Forest.{Forest};
 ghost use Rattle.store_cells.specs.Cells.{Cells};
 ghost use Rattle.widget_meaning.specs.TextNatives as means;
-ghost use Rattle.widget_meaning.specs.NativeForms as forms;
 ghost use Rattle.js_image.specs.Image.{seen};
 ghost use Rattle.js_image.specs.Held.{Kept};
 ghost use Rattle.js_values.specs.Operands.{plain};
 ghost use Rattle.native_common.specs.Meets.{Meets};
 ghost use Rattle.native_common.specs.Numbers.{IsSmall};
-ghost use Rattle.plain_natives.specs.Choices.{cut, in_case, part};
+ghost use Rattle.text_methods.specs.Choices.{cut, part};
 
 use code_units::{Memory, Text};
 use js_values::{Fault, Meter, NativeOut, StopCause};
 use native_common::{
-    charged, clamped, either_object, from_end, give_text, give_units, is_object, number_or,
-    optional_number, text_len,
+    charged, clamped, either_object, from_end, give_units, is_object, number_or, optional_number,
+    text_len,
 };
 use object_store::{Number, Store, Value};
 use std::alloc::Global;
 
 /// `charAt(i)`: the unit at a position as a text, and nothing outside.
-pub fn char_at(
+pub(crate) fn char_at(
     alloc: Global,
     t: &Text,
     i: &Value,
@@ -58,7 +55,7 @@ fn unit_at(units: &[u16], z: i64) -> &[u16]
 }
 
 /// `charCodeAt(i)`: the unit at a position as a number, NaN outside.
-pub fn char_code_at(t: &Text, i: &Value, meter: &mut Meter) -> NativeOut
+pub(crate) fn char_code_at(t: &Text, i: &Value, meter: &mut Meter) -> NativeOut
     ensures { (w : ℕ) (s : Cells) → Meets w s s meter.old meter.new
         (λ d x. means.char_code_at t.now (seen w s.cells i.now) x) result }
 {
@@ -88,7 +85,7 @@ fn first_code(units: &[u16]) -> Value
 }
 
 /// `slice(a, b)`, or `substring(a, b)`.
-pub fn cut(
+pub(crate) fn cut(
     alloc: Global,
     t: &Text,
     slice: bool,
@@ -145,65 +142,4 @@ fn between(units: &[u16], from: usize, to: usize) -> &[u16]
         return &[];
     }
     &units[from..to]
-}
-
-/// `toUpperCase()`, or `toLowerCase()`: ASCII letters are changed.
-pub fn in_case(
-    alloc: Global,
-    t: &Text,
-    upper: bool,
-    store: &mut Store,
-    meter: &mut Meter,
-    w: u32,
-) -> Result<NativeOut, Memory>
-    requires widget { w < 32 }
-    ensures native { IfOk result (λ o. Meets w store.old store.new meter.old meter.new
-        (λ d s. forms.give_text (length t.now) (in_case upper t.now) s) o) }
-    ensures memory { OnErr result ((fs : List Forest) → Kept fs w store.old store.new) }
-{
-    let text = case_text(alloc, t.units(), upper)?;
-    Ok(give_text(store, meter, w, text_len(t), text))
-}
-
-// The units with ASCII letters changed.
-fn case_text(alloc: Global, units: &[u16], upper: bool) -> Result<Text, Memory>
-    ensures { IfOk result (λ t. t ≡ in_case upper units.now) }
-{
-    if upper {
-        upper_case(alloc, units)
-    } else {
-        lower_case(alloc, units)
-    }
-}
-
-fn upper_case(alloc: Global, units: &[u16]) -> Result<Text, Memory>
-    ensures { IfOk result (λ t. t ≡ str_to_ascii_uppercase units.now) }
-{
-    let units = units.iter().map(upper_unit).collect(alloc)?;
-    Text::from_units(alloc, units)
-}
-
-fn upper_unit(u: &u16) -> u16
-    ensures { result ≡ chars.to_ascii_uppercase u.now }
-{
-    match *u {
-        97..=122 => *u - 32,
-        _ => *u,
-    }
-}
-
-fn lower_case(alloc: Global, units: &[u16]) -> Result<Text, Memory>
-    ensures { IfOk result (λ t. t ≡ str_to_ascii_lowercase units.now) }
-{
-    let units = units.iter().map(lower_unit).collect(alloc)?;
-    Text::from_units(alloc, units)
-}
-
-fn lower_unit(u: &u16) -> u16
-    ensures { result ≡ chars.to_ascii_lowercase u.now }
-{
-    match *u {
-        65..=90 => *u + 32,
-        _ => *u,
-    }
 }

@@ -7,13 +7,13 @@ use Rattle.native_common.specs.Numbers as numbers
 use Rattle.native_common.specs.Numbers.{counted}
 use Rattle.native_common.proofs.Meeting.{meets_same}
 use Rattle.plain_natives.proofs.Exits.{stops}
-use Rattle.plain_natives.specs.Choices as choices
+use Rattle.text_methods.specs.Choices as choices
 use Rattle.std.proofs.lemmas.Result.{IfOk-weaker}
-use Rattle.plain_natives.proofs.Cuts.{cut_last_left, cut_left, cut_made}
+use Rattle.text_methods.proofs.Cuts.{cut_last_left, cut_left, cut_made}
 use mir.Val.{of_z, to_z}
 use mir.Syntax.{w64}
 use Rattle.std.proofs.Common.{rules}
-use Rattle.plain_natives.proofs.cutting.cut.Goals as goal
+use Rattle.text_methods.proofs.cutting.cut.Goals as goal
 
 pub returns-in_default-clause-native : goal.returns-in_default-clause-native
 returns-in_default-clause-native c =

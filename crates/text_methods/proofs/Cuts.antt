@@ -7,8 +7,8 @@ use Rattle.widget_meaning.specs.OwnState.{State}
 use Rattle.widget_meaning.specs.Plan.{Halt, Plan, charge}
 use Rattle.widget_meaning.specs.NativeForms.{give_text, want_primitives, with_number, with_optional}
 use Rattle.native_common.specs.Numbers.{number_or, optional_number}
-use Rattle.plain_natives.specs.Choices as choices
-use Rattle.plain_natives.specs.Choices.{part}
+use Rattle.text_methods.specs.Choices as choices
+use Rattle.text_methods.specs.Choices.{part}
 use Rattle.plain_natives.proofs.Exits.{numbered, numbered_not, optional, optional_not, wants}
 
 module _ (slice : Bool) (t : List ℕ) (a b : Value) (s : State) where

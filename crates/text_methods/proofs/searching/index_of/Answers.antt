@@ -16,8 +16,8 @@ use Rattle.std.proofs.Common.{rules}
 use Rattle.std.specs.Prelude.{nat_le, slice_get}
 use Rattle.std.specs.List.{filter}
 use Rattle.widget_meaning.specs.OwnState.{State}
-use Rattle.plain_natives.proofs.Small.{small_fine, small_seen}
-use Rattle.plain_natives.proofs.searching.index_of.Goals as goal
+use Rattle.text_methods.proofs.Small.{small_fine, small_seen}
+use Rattle.text_methods.proofs.searching.index_of.Goals as goal
 
 pub returns-in_default : goal.returns-in_default
 returns-in_default c =

@@ -16,7 +16,7 @@ use std::alloc::Global;
 use text_search::Needle;
 
 /// `indexOf(s, from)`: the least position at or after `from`, or -1.
-pub fn index_of(
+pub(crate) fn index_of(
     alloc: Global,
     t: &Text,
     x: &Value,
@@ -41,7 +41,7 @@ pub fn index_of(
 }
 
 /// `lastIndexOf(s, from)`: the greatest position at or before `from`, which for NaN is the end, or -1.
-pub fn last_index_of(
+pub(crate) fn last_index_of(
     alloc: Global,
     t: &Text,
     x: &Value,

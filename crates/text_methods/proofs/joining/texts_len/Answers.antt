@@ -7,7 +7,7 @@ use Rattle.native_common.proofs.Loops.{counted_all, counted_more, stepped}
 use Rattle.std.proofs.Common.{length-append}
 use Rattle.std.specs.List.{flat_map}
 use Rattle.std.proofs.lemmas.List.{at_drop_all}
-use Rattle.plain_natives.proofs.joining.texts_len.Goals as goal
+use Rattle.text_methods.proofs.joining.texts_len.Goals as goal
 
 pub loop-v-preserved : goal.loop-v-preserved
 loop-v-preserved c =

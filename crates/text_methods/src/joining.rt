@@ -18,7 +18,7 @@ use std::alloc::Global;
 
 /// `concat(a, ...)`: the text and those of the arguments, joined. They are joined once they are paid
 /// in fuel.
-pub fn concat(
+pub(crate) fn concat(
     alloc: Global,
     t: &Text,
     args: &[Value],
