@@ -2,6 +2,7 @@ pub mod Adding
 pub mod Arguing
 pub mod FormFrames
 pub mod Handing
+pub mod InPlace
 pub mod Lists
 pub mod Loops
 pub mod Numerals

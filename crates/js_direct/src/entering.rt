@@ -1,15 +1,14 @@
 //! Calls that have their function and their arguments, carried out in place.
-ghost use Rattle.std.specs.Prelude.{◌≡◌, ℕ, suc, ◌+◌, ◌++◌, ◌∷◌, List, [], IfOk, IfSome};
+ghost use Rattle.std.specs.Prelude.{◌≡◌, ℕ, suc, ◌+◌, ◌++◌, ◌∷◌, [], IfOk, IfSome};
 ghost use Rattle.std.specs.Option.{option_map};
 ghost use Rattle.js_tree.specs.Trees.{trees};
-ghost use Rattle.js_tree.specs.Forest.{Forest, fun_at};
+ghost use Rattle.js_tree.specs.Forest.{fun_at};
 ghost use Rattle.store_cells.specs.Cells.{Cells};
 ghost use Rattle.object_store.specs.Owned.{scope_number};
 ghost use Rattle.widget_meaning.specs.Calls as calls;
 ghost use Rattle.widget_meaning.specs.OwnState as state;
 ghost use Rattle.widget_meaning.specs.OwnState.{State};
-ghost use Rattle.widget_meaning.specs.Plan as meaning;
-ghost use Rattle.widget_meaning.specs.Plan.{Do, Ret};
+ghost use Rattle.widget_meaning.specs.Plan.{Ret};
 ghost use Rattle.js_image.specs.Image.{all_seen, function_in, seen};
 ghost use Rattle.js_image.specs.Held.{AreFine, IsFine, IsFunOf, IsPlaceScope, Kept};
 ghost use Rattle.js_names.specs.Code.{trees_of};
@@ -20,16 +19,15 @@ ghost use Rattle.js_flow.specs.Views.{completion_of, place_of};
 ghost use Rattle.js_direct.specs.Comes.{Comes, IsEnd, IsReady, ended_as};
 
 use crate::blocks::block_on;
-use crate::run::{Ended, Here, Run, Site, clear, leave_job, stop, throw, wait};
+use crate::natives::native_on;
+use crate::run::{Ended, Here, Run, Site, clear, stop, throw, wait};
 use code_units::Memory;
 use js_calls::{Called, Entry, entered};
-use js_flow::{Args, Block, Call, CallFrame, Frame, Job, NativeCall};
+use js_flow::{Args, Block, Call, CallFrame, Frame};
 use js_image::{Callee, Fault, callee};
 use js_names::tree_at;
 use js_tree::FunId;
-use object_store::{FunParts, NativeId, Store, Value};
-use std::alloc::Global;
-use std::mem;
+use object_store::{FunParts, Store, Value};
 
 /// A call that has its function and its arguments, after its unit.
 pub(crate) fn invoke_on(
@@ -124,37 +122,9 @@ pub(crate) fn value_on(
             };
             enter_on(site, run, store, &call, parts, deep, out)
         }
-        Callee::Native(which) => native_on(site.alloc, run, this, args, depth, which),
+        Callee::Native(which) => native_on(site, run, store, this, args, depth, which, out),
         Callee::Nothing => throw(site, run, store, Fault::E2, out),
     }
-}
-
-// A native takes a unit of its own.
-#[inline(never)]
-fn native_on(
-    alloc: Global,
-    run: &mut Run,
-    this: &mut Option<Value>,
-    args: &mut Args,
-    depth: u32,
-    which: NativeId,
-) -> Result<Ended, Memory>
-    requires waits { run.old.waits.items ≡ [] }
-    ensures comes { IfOk result (λ how. (fs : List Forest) (w : ℕ) (s : Cells) (v : Value)
-        → IfSome this.old (IsFine w s.cells) → AreFine w s.cells args.old.items → Comes fs w s s 0
-        (λ t. Do (meaning.RunNative which (option_map (seen w s.cells) this.old)
-        (all_seen w s.cells args.old.items) depth) t Ret)
-        run.old run.new how v) }
-{
-    let this = mem::replace(this, None);
-    let args = mem::replace(args, Args::new(alloc));
-    let native = NativeCall {
-        which,
-        this,
-        args,
-        depth,
-    };
-    leave_job(run, Job::RunNative(Box::new(alloc, native)?))
 }
 
 // A function of the widget, which runs one deeper.

@@ -1,4 +1,5 @@
-//! Forms that are carried out in place: frames are made only where one is suspended.
+//! Forms that are carried out in place, and natives that need the store alone: frames are made only where
+//! one is suspended.
 //!
 //! Each function is handed where its form stands (`Here`), what it may spend and what waits (`Run`), the
 //! store, how many forms may still stand in it (`deep`), and the place of its value (`out`), which owns
@@ -20,6 +21,7 @@ mod leaves;
 mod literals;
 mod looping;
 mod names;
+mod natives;
 mod objects;
 mod operators;
 mod properties;

@@ -2418,9 +2418,8 @@ entering::value_on-returns-in-Native-clause-comes t c =
     let vs = all_seen w s.cells c.args.args.now.items in
     let d = c.args.depth in
     IfOk-weaker c.native_on.result _ _
-    (λ how h. before_it fs w s s 0 4 (invoke func this vs d) _ c.args.run.now c.native_on.new.run how (ended_as how c.args.out.now)
-    (λ r. native_called (image fs r w s) this vs d func c.in-Native.which (c.in-Native.ensures.called fs r w c.requires.held.0))
-    (h fs w s c.args.out.now c.requires.held.1 c.requires.held.2) (omega arith))
+    (λ how h. after_store fs w s s c.native_on.new.store 4 _ (invoke func this vs d) c.args.run.now c.native_on.new.run how (ended_as how c.native_on.new.out) (more fs w s c.native_on.new.store 0 4 _ c.args.run.now c.native_on.new.run how (ended_as how c.native_on.new.out) h (omega arith))
+    (λ r. native_called (image fs r w s) this vs d func c.in-Native.which (c.in-Native.ensures.called fs r w c.requires.held.0)))
     c.native_on.ensures.comes
 
 pub entering::value_on-returns-in-Nothing-clause-comes : goal.entering::value_on-returns-in-Nothing-clause-comes
@@ -2449,8 +2448,11 @@ entering::value_on-enter_on-requires t c = (
   ),
 )
 
-pub entering::value_on-native_on-requires : goal.entering::value_on-native_on-requires
-entering::value_on-native_on-requires t c = record { waits = c.requires.ready.2 }
+pub entering::value_on-native_on-requires-clause-ready : goal.entering::value_on-native_on-requires-clause-ready
+entering::value_on-native_on-requires-clause-ready t c = c.requires.ready
+
+pub entering::value_on-native_on-requires-clause-held : goal.entering::value_on-native_on-requires-clause-held
+entering::value_on-native_on-requires-clause-held t c = (c.requires.held.1, c.requires.held.2)
 
 pub entering::value_on-throw-requires : goal.entering::value_on-throw-requires
 entering::value_on-throw-requires t c = record { ready = c.requires.ready }
@@ -2459,7 +2461,7 @@ pub entering::value_on-returns-in-Function-clause-kept : goal.entering::value_on
 entering::value_on-returns-in-Function-clause-kept t c = c.enter_on.ensures.kept
 
 pub entering::value_on-returns-in-Native-clause-kept : goal.entering::value_on-returns-in-Native-clause-kept
-entering::value_on-returns-in-Native-clause-kept t c = kept_same (trees_of c.args.site.now.codes.now.items) c.args.site.now.widget c.args.store.now c.args.store.now refl
+entering::value_on-returns-in-Native-clause-kept t c = c.native_on.ensures.kept
 
 pub entering::value_on-returns-in-Nothing-clause-kept : goal.entering::value_on-returns-in-Nothing-clause-kept
 entering::value_on-returns-in-Nothing-clause-kept t c = c.throw.ensures.kept

@@ -6,7 +6,7 @@ use Rattle.js_image.specs.Image.{all_seen, seen}
 use Rattle.js_flow.specs.declared.job.NativeCall.{NativeCall}
 use Rattle.js_flow.specs.Fine.{FineNative}
 use Rattle.js_direct.specs.Comes.{Comes}
-use Rattle.js_direct.proofs.entering.native_on.Goals as goal
+use Rattle.js_direct.proofs.natives.native_far.Goals as goal
 
 pub returns : goal.returns
 returns c =
