@@ -38,6 +38,7 @@ holds "--try says that nothing is proved" [ "$(tail -n 1 "$work/err")" = \
     "adhost: this program was built without its proof: nothing of this run is proved" ]
 holds "--try with a file that is missing" ends 6 --try check none.json
 holds "its status is told" grep -q "^adhost: status 6: " "$work/err"
+holds "--try beyond the limit on the size of files" eval "(ulimit -f 0; ends 7 --try replay m.json t.json 50)"
 holds "--try of a slot that is refused" ends 1 --try check-lib ../returns-this.js
 holds "its line" [ "$(cat "$work/out")" = '{"file":"../returns-this.js","refused":"A04","at":[2,31]}' ]
 
