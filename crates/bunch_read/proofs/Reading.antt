@@ -1,14 +1,14 @@
 -- What is read of the first node is what the meaning reads there.
-use Rattle.std.proofs.Common.{◌≡◌, ℕ, ◌+◌, ◌≤◌, ◌<◌, arith, List, [], ◌∷◌, Bool, true, false, refl, sym, ap, ◌∙◌, map, length, Option, None, Some, unwrap_or, slice_get, codes, if◌then◌else◌}
+use Rattle.std.proofs.Common.{◌≡◌, ℕ, ◌+◌, ◌≤◌, ◌<◌, arith, List, [], ◌∷◌, true, false, refl, sym, ap, ◌∙◌, map, length, Option, None, Some, unwrap_or, slice_get, codes, if◌then◌else◌}
 use Rattle.std.specs.Prelude.{option_and_then, is_some, min, ◌-◌, ◌^◌}
 use Rattle.native_common.specs.Numbers.{counted}
 use Rattle.std.specs.Option.{option_map, option_map_or}
 use Rattle.plain_tree.specs.Trees.{Label, ElementOf, TextOf}
 use Rattle.tree_ops.specs.Labels.{attribute_of, is_text, tag_of}
+use Rattle.permitted_table.specs.declared.native.ReadNative.{ReadNative}
+use Rattle.permitted_table.specs.declared.native.ReadNative.TheVariants as method
 use Rattle.widget_meaning.specs.BunchReads as means
-use Rattle.std.proofs.lemmas.List.{length-map}
-use Rattle.widget_meaning.specs.Costs.{give}
-use Rattle.widget_meaning.specs.Values.{Undefined}
+use Rattle.widget_meaning.specs.Values.{Value}
 use Rattle.widget_meaning.specs.OwnState.{State, kept_at}
 use Rattle.widget_meaning.specs.PageForms as forms
 use Rattle.widget_meaning.specs.Trees.{label_of}
@@ -41,21 +41,13 @@ module _ (p : Page) (w : ℕ) (s : State) (there : s.own.forest ≡ forest p w) 
   attribute_is n x o e = ap (λ t. option_and_then (attribute_of x) (label_of (number p w n) t)) there ∙ sym e
 
   -- an attribute of the first node
-  pub first_is : (list : List ℕ) (n : ℕ) (x : List ℕ) (o : Option (List ℕ)) → slice_get list 0 ≡ Some n → o ≡ option_and_then (attribute_of x) (label_at p w n) → unwrap_or o [] ≡ means.first_attribute s (own list) x
+  pub first_is : (list : List ℕ) (n : ℕ) (x : List ℕ) (o : Option (List ℕ)) → slice_get list 0 ≡ Some n → o ≡ option_and_then (attribute_of x) (label_at p w n) → o ≡ means.first_found s (own list) x
   first_is list n x o e h =
       let f = first_node list n e in
-      ap (λ u. unwrap_or u []) (sym (attribute_is n x o h)) ∙ ap (λ l. means.first_attribute s (own l) x) (sym f.1)
+      sym (attribute_is n x o h) ∙ ap (λ l. means.first_found s (own l) x) (sym f.1)
 
-  pub no_first_is : (list x : List ℕ) → slice_get list 0 ≡ None → [] ≡ means.first_attribute s (own list) x
-  no_first_is list x e = ap (λ l. means.first_attribute s (own l) x) (sym (no_first list e))
-
-  pub checked_is : (list : List ℕ) (n : ℕ) (o : Option (List ℕ)) (b : Bool) → slice_get list 0 ≡ Some n → o ≡ option_and_then (attribute_of (codes "checked")) (label_at p w n) → b ≡ is_some o → b ≡ means.is_checked s (own list)
-  checked_is list n o b e h q =
-      let f = first_node list n e in
-      q ∙ ap is_some (sym (attribute_is n (codes "checked") o h)) ∙ ap (λ l. means.is_checked s (own l)) (sym f.1)
-
-  pub no_checked : (list : List ℕ) → slice_get list 0 ≡ None → false ≡ means.is_checked s (own list)
-  no_checked list e = ap (λ l. means.is_checked s (own l)) (sym (no_first list e))
+  pub no_first_is : (list x : List ℕ) → slice_get list 0 ≡ None → None ≡ means.first_found s (own list) x
+  no_first_is list x e = ap (λ l. means.first_found s (own l) x) (sym (no_first list e))
 
   -- the tag of a node
   abbrev name_of : Option Label → List ℕ
@@ -71,6 +63,14 @@ module _ (p : Page) (w : ℕ) (s : State) (there : s.own.forest ≡ forest p w) 
       ∙ sym (named (at (nodes p) n).label)
       ∙ sym (ap name_of (looks.label_at p w n h))
       ∙ sym (ap (λ t. name_of (label_of (number p w n) t)) there)
+
+  pub first_tag_is : (list : List ℕ) (n : ℕ) (t : List ℕ) → slice_get list 0 ≡ Some n → t ≡ (if forms.is_text_node s (number p w n) then codes "#text" else forms.tag_of s (number p w n)) → Some t ≡ means.first_tag s (own list)
+  first_tag_is list n t e h =
+      let f = first_node list n e in
+      ap Some h ∙ ap (λ l. means.first_tag s (own l)) (sym f.1)
+
+  pub no_tag : (list : List ℕ) → slice_get list 0 ≡ None → None ≡ means.first_tag s (own list)
+  no_tag list e = ap (λ l. means.first_tag s (own l)) (sym (no_first list e))
 
 -- the mark of the first node
 module _ (p : Page) (w : ℕ) (s : State) where
@@ -102,12 +102,22 @@ add_counted a b n m k e f g = omega (arith, e, f, g)
 pub units_fit : (a all l left has spent : ℕ) → a ≡ counted all → left ≡ l + all + has → left + spent < 2 ^ 64 → a ≡ all
 units_fit a all l left has spent e f g = omega (arith, e, f, g)
 
--- `getTagName()` of nodes of which this is the first
-pub tag_name_is : (p : Page) (w : ℕ) (s : State) (list : List ℕ) (n : ℕ) → slice_get list 0 ≡ Some n → means.get_tag_name (map (number p w) list) s ≡ means.give_page_text (length list) (if forms.is_text_node s (number p w n) then codes "#text" else forms.tag_of s (number p w n)) s
-tag_name_is p w s list n e =
-    let f = first_node list n e in
-    ap (λ l. means.get_tag_name (map (number p w) l) s) f.1
-    ∙ ap (λ m. means.give_page_text m (if forms.is_text_node s (number p w n) then codes "#text" else forms.tag_of s (number p w n)) s) (length-map (n ∷ f.0) (number p w) ∙ sym (ap length f.1))
+-- ## A text that is shown
 
-pub no_tag : (p : Page) (w : ℕ) (s : State) (list : List ℕ) → slice_get list 0 ≡ None → means.get_tag_name (map (number p w) list) s ≡ give Undefined s
-no_tag p w s list e = ap (λ l. means.get_tag_name (map (number p w) l) s) (no_first list e)
+extra_is : (m : ReadNative) → (m ≡ method.GetValue → ⊥) → (s : State) (ns : List ℕ) → means.shown_extra m s ns ≡ length ns
+extra_is method.GetValue other s ns = absurd (other refl)
+extra_is _ other s ns = refl
+
+pub shown_gives : (m : ReadNative) → (m ≡ method.GetValue → ⊥) → (s : State) (ns : List ℕ) (n : ℕ) → length ns ≡ n → (o : Option (List ℕ)) → o ≡ means.shown m s ns → means.show m ns s ≡ means.give_found n o s
+shown_gives m other s ns n e o h = λ j. means.give_found ((extra_is m other s ns ∙ e) j) (sym h j) s
+
+-- the methods that are not named show a text
+pub others_show : (m : ReadNative) → (m ≡ method.Explode → ⊥) → (m ≡ method.Query → ⊥) → (m ≡ method.GetValues → ⊥) → (m ≡ method.GetStyle → ⊥) → (m ≡ method.GetCheck → ⊥) → (m ≡ method.Count → ⊥) → (m ≡ method.GetParent → ⊥) → (ns : List ℕ) (vs : List Value) (s : State) → means.read_method m ns vs s ≡ means.show m ns s
+others_show method.Explode a b c d e f g ns vs s = absurd (a refl)
+others_show method.Query a b c d e f g ns vs s = absurd (b refl)
+others_show method.GetValues a b c d e f g ns vs s = absurd (c refl)
+others_show method.GetStyle a b c d e f g ns vs s = absurd (d refl)
+others_show method.GetCheck a b c d e f g ns vs s = absurd (e refl)
+others_show method.Count a b c d e f g ns vs s = absurd (f refl)
+others_show method.GetParent a b c d e f g ns vs s = absurd (g refl)
+others_show _ a b c d e f g ns vs s = refl

@@ -10,6 +10,7 @@ use Rattle.plain_tree.specs.Trees.{ElementOf, Label, TextOf}
 use Rattle.tree_ops.specs.Labels.{attribute_of, is_text, tag_of}
 use Rattle.tree_ops.specs.Trees.{subtree}
 use Rattle.query_grammar.specs.Filters as node
+use Rattle.permitted_table.specs.declared.native.ReadNative.TheVariants.{GetValue}
 use Rattle.widget_meaning.specs.BunchReads as means
 use Rattle.widget_meaning.specs.NativeForms.{give_texts, is_too_long}
 use Rattle.widget_meaning.specs.OwnState.{State}
@@ -107,15 +108,15 @@ long_texts [] = refl
 long_texts (t ∷ ts) = ap (λ b. is_too_long t || b) (long_texts ts)
 
 -- `getValue()` of nodes of which this is the first
-pub get_value_is : (p : Page) (w : ℕ) (s : State) (list : List ℕ) (n : ℕ) → slice_get list 0 ≡ Some n → means.get_value (map (number p w) list) s ≡ charge (length list + length (means.value_of s (number p w n))) s (make_text (means.value_of s (number p w n)) s (give (Text (means.value_of s (number p w n)))))
+pub get_value_is : (p : Page) (w : ℕ) (s : State) (list : List ℕ) (n : ℕ) → slice_get list 0 ≡ Some n → means.show GetValue (map (number p w) list) s ≡ charge (length list + length (means.value_of s (number p w n))) s (make_text (means.value_of s (number p w n)) s (give (Text (means.value_of s (number p w n)))))
 get_value_is p w s list n e =
     let f = first_node list n e in
     let v = means.value_of s (number p w n) in
-    ap (λ l. means.get_value (map (number p w) l) s) f.1
+    ap (λ l. means.show GetValue (map (number p w) l) s) f.1
     ∙ ap (λ m. charge (m + length v) s (make_text v s (give (Text v)))) (length-map (n ∷ f.0) (number p w) ∙ sym (ap length f.1))
 
-pub no_value : (p : Page) (w : ℕ) (s : State) (list : List ℕ) → slice_get list 0 ≡ None → means.get_value (map (number p w) list) s ≡ give Undefined s
-no_value p w s list e = ap (λ l. means.get_value (map (number p w) l) s) (no_first list e)
+pub no_value : (p : Page) (w : ℕ) (s : State) (list : List ℕ) → slice_get list 0 ≡ None → means.show GetValue (map (number p w) list) s ≡ give Undefined s
+no_value p w s list e = ap (λ l. means.show GetValue (map (number p w) l) s) (no_first list e)
 
 -- a state with this page
 abbrev pub page_state : Page → ℕ → State

@@ -10,9 +10,9 @@ ghost use Rattle.native_image.specs.Meets.{Reads};
 ghost use Rattle.native_image.specs.Sound.{AreNodes, HoldsOwn, IsSound, KeepsStore};
 ghost use Rattle.bunch_read.specs.Part.{is_part, is_read};
 
-use crate::attributes::get_attribute;
 use crate::finding::{get_parent, query};
-use crate::first::{count, get_check, get_mark, get_tag_name};
+use crate::first::{count, get_check};
+use crate::shown::show;
 use crate::styles::get_style;
 use crate::texts::{get_value, get_values};
 use code_units::{Memory, Owner};
@@ -120,12 +120,9 @@ fn read(
         ReadNative::GetValue => get_value(alloc, list, store, meter, w, page),
         ReadNative::GetValues => get_values(alloc, list, store, meter, w, page),
         ReadNative::GetStyle => get_style(alloc, list, first, store, meter, w, page),
-        ReadNative::GetClass => get_attribute(alloc, list, b"class", store, meter, w, page),
-        ReadNative::GetTitle => get_attribute(alloc, list, b"title", store, meter, w, page),
         ReadNative::GetCheck => Ok(get_check(list, meter, w, page)),
         ReadNative::Count => Ok(count(list, meter, w, page)),
         ReadNative::GetParent => get_parent(alloc, list, store, meter, w, page, around),
-        ReadNative::GetTagName => get_tag_name(alloc, list, store, meter, w, page),
-        ReadNative::GetMark => get_mark(alloc, list, store, meter, w, page, around),
+        _ => show(alloc, method, list, store, meter, w, page, around),
     }
 }

@@ -1,6 +1,5 @@
 //! What else is read of the first node, and how many there are.
 ghost use Rattle.std.specs.Prelude.{◌≡◌, ◌≤◌, ◌<◌, ℕ, List, true, IfOk, codes, length, map, pos, if◌then◌else◌};
-ghost use Rattle.js_tree.specs.Forest.{Forest};
 ghost use Rattle.store_cells.specs.Cells.{Cells};
 ghost use Rattle.widget_meaning.specs.BunchReads as means;
 ghost use Rattle.widget_meaning.specs.Costs.{give};
@@ -10,20 +9,19 @@ ghost use Rattle.widget_meaning.specs.Plan.{charge};
 ghost use Rattle.widget_meaning.specs.Values.{Num, Truth};
 ghost use Rattle.event_image.specs.Image.{Shows};
 ghost use Rattle.event_loop.specs.declared.around.Loop.{Loop};
-ghost use Rattle.js_image.specs.Held.{Kept};
 ghost use Rattle.page_image.specs.Image.{forest, number, owns};
 ghost use Rattle.native_image.specs.Meets.{Reads};
 ghost use Rattle.native_image.specs.Sound.{AreNodes, IsSound};
 
-use crate::attributes::shared;
+use crate::attributes::{first_found, shared};
 use code_units::{Memory, Text};
 use event_image::mark;
 use event_loop::Loop;
 use js_image::word;
 use js_values::{Meter, NativeOut};
-use native_image::{give_page_text, give_plain};
-use object_store::{Number, Store, Value};
-use page_image::{attr_of_word, tag};
+use native_image::give_plain;
+use object_store::{Number, Value};
+use page_image::tag;
 use page_tree::{NodeId, Page};
 use std::alloc::Global;
 
@@ -53,10 +51,7 @@ fn is_checked(list: &[NodeId], w: u32, page: &Page) -> bool
     ensures { (s : State) → s.own.forest ≡ forest page.now w
         → result ≡ means.is_checked s (map (number page.now w) list.now) }
 {
-    match list.first() {
-        Some(node) => attr_of_word(page, w, *node, b"checked").is_some(),
-        None => false,
-    }
+    first_found(list, b"checked", w, page).is_some()
 }
 
 /// `getCheck()`.
@@ -83,33 +78,25 @@ fn tag_name(alloc: Global, node: NodeId, w: u32, page: &Page) -> Result<Text, Me
     }
 }
 
-/// `getTagName()`.
-pub(crate) fn get_tag_name(
+// The tag of the first node, `#text` of a text node.
+pub(crate) fn first_tag(
     alloc: Global,
     list: &[NodeId],
-    store: &mut Store,
-    meter: &mut Meter,
     w: u32,
     page: &Page,
-) -> Result<NativeOut, Memory>
-    requires widget { w < 32 }
-    requires nodes { AreNodes page.now w list.now }
-    ensures native { (l : Loop) → IsSound w store.old page.now l
-        → IfOk result (λ o. Reads w store.old store.new page.now l meter.old meter.new
-        (λ d s. means.get_tag_name (map (number page.now w) list.now) s) o) }
-    ensures kept { (fs : List Forest) → Kept fs w store.old store.new }
+) -> Result<Option<Text>, Memory>
+    requires { AreNodes page.now w list.now }
+    ensures { (s : State) → s.own.forest ≡ forest page.now w
+        → IfOk result (λ t. t ≡ means.first_tag s (map (number page.now w) list.now)) }
 {
     match list.first() {
-        Some(node) => {
-            let text = tag_name(alloc, *node, w, page)?;
-            Ok(give_page_text(store, meter, w, list.len(), text))
-        }
-        None => Ok(NativeOut::Value(Value::Undefined)),
+        Some(node) => Ok(Some(tag_name(alloc, *node, w, page)?)),
+        None => Ok(None),
     }
 }
 
 // The mark of the first node, or the empty text.
-fn first_mark(
+pub(crate) fn first_mark(
     alloc: Global,
     list: &[NodeId],
     w: u32,
@@ -124,26 +111,4 @@ fn first_mark(
         Some(node) => shared(alloc, mark(around, page, w, *node)),
         None => word(alloc, b""),
     }
-}
-
-/// `getMark()`.
-pub(crate) fn get_mark(
-    alloc: Global,
-    list: &[NodeId],
-    store: &mut Store,
-    meter: &mut Meter,
-    w: u32,
-    page: &Page,
-    around: &Loop,
-) -> Result<NativeOut, Memory>
-    requires widget { w < 32 }
-    requires nodes { AreNodes page.now w list.now }
-    ensures native { IsSound w store.old page.now around.now
-        → IfOk result (λ o. Reads w store.old store.new page.now around.now meter.old meter.new
-        (λ d s. means.give_page_text (length (map (number page.now w) list.now))
-        (means.first_mark s (map (number page.now w) list.now)) s) o) }
-    ensures kept { (fs : List Forest) → Kept fs w store.old store.new }
-{
-    let text = first_mark(alloc, list, w, page, around)?;
-    Ok(give_page_text(store, meter, w, list.len(), text))
 }

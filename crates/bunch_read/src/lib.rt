@@ -8,6 +8,7 @@ mod attributes;
 mod calling;
 mod finding;
 mod first;
+mod shown;
 mod styles;
 mod texts;
 

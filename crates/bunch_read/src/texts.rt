@@ -8,6 +8,7 @@ ghost use Rattle.js_tree.specs.Forest.{Forest};
 ghost use Rattle.tree_ops.specs.Trees.{subtree};
 ghost use Rattle.query_grammar.specs.Finds.{has_number};
 ghost use Rattle.store_cells.specs.Cells.{PlainCell};
+ghost use Rattle.permitted_table.specs.declared.native.ReadNative.TheVariants.{GetValue};
 ghost use Rattle.widget_meaning.specs.BunchReads as means;
 ghost use Rattle.widget_meaning.specs.OwnState.{State};
 ghost use Rattle.widget_meaning.specs.NativeForms as forms;
@@ -164,7 +165,7 @@ pub(crate) fn get_value(
     requires nodes { AreNodes page.now w list.now }
     ensures native { (l : Loop) → IsSound w store.old page.now l
         → IfOk result (λ o. Reads w store.old store.new page.now l meter.old meter.new
-        (λ d s. means.get_value (map (number page.now w) list.now) s) o) }
+        (λ d s. means.show GetValue (map (number page.now w) list.now) s) o) }
     ensures kept { (fs : List Forest) → Kept fs w store.old store.new }
 {
     match list.first() {

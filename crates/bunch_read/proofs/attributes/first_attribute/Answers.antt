@@ -1,15 +1,7 @@
-use Rattle.std.proofs.Common.{sym, ap, ◌∙◌}
-use Rattle.std.specs.Prelude.{option_copied}
+use Rattle.std.proofs.Common.{[], ap, ◌∙◌}
+use Rattle.std.specs.Prelude.{unwrap_or}
 use Rattle.std.proofs.lemmas.Result.{IfOk-weaker}
-use Rattle.query_walks.proofs.Members.{first_has}
-use Rattle.bunch_read.proofs.Reading.{first_is, no_first_is}
 use Rattle.bunch_read.proofs.attributes.first_attribute.Goals as goal
 
-pub attr_of_word-requires : goal.attr_of_word-requires
-attr_of_word-requires c = c.requires c.in-Some.node.now (first_has c.args.list.now c.in-Some.node.now (sym c.first.ensures.value ∙ ap option_copied c.in-Some.is))
-
-pub returns-in-Some : goal.returns-in-Some
-returns-in-Some c = λ s there. IfOk-weaker c.shared.result _ _ (λ t e. e ∙ first_is c.args.page.now c.args.w s there c.args.list.now c.in-Some.node.now c.args.name.now (option_copied c.attr_of_word.result) (sym c.first.ensures.value ∙ ap option_copied c.in-Some.is) c.attr_of_word.ensures) c.shared.ensures
-
-pub returns-in-None : goal.returns-in-None
-returns-in-None c = λ s there. IfOk-weaker c.word.result _ _ (λ t e. e ∙ no_first_is c.args.page.now c.args.w s there c.args.list.now c.args.name.now (sym c.first.ensures.value ∙ ap option_copied c.in-None.is)) c.word.ensures
+pub returns : goal.returns
+returns c = λ s there. IfOk-weaker c.shared.result _ _ (λ t e. e ∙ ap (λ o. unwrap_or o []) (c.first_found.ensures s there)) c.shared.ensures

@@ -1,10 +1,14 @@
-use Rattle.std.proofs.Common.{[], map, refl}
+use Rattle.std.proofs.Common.{[], ◌∷◌, map, refl}
+use Rattle.std.proofs.lemmas.Result.{IfOk-weaker}
 use Rattle.permitted_table.specs.declared.native.ReadNative.TheVariants as method
+use Rattle.widget_meaning.specs.BunchReads.{read_method, show}
 use Rattle.js_image.specs.Image.{seen}
 use Rattle.page_image.specs.Image.{number}
 use Rattle.native_image.proofs.Joint.{keeps_of, sound_stays}
+use Rattle.native_image.proofs.Meeting.{reads_same}
 use Rattle.native_image.proofs.Nodes.{same_kept}
 use Rattle.bunch_read.proofs.Calls.{at_method, of_method}
+use Rattle.bunch_read.proofs.Reading.{others_show}
 use Rattle.bunch_read.proofs.calling.read.Goals as goal
 
 pub returns-in-Query-clause-native : goal.returns-in-Query-clause-native
@@ -37,24 +41,6 @@ returns-in-GetStyle-clause-holds c = (sound_stays c.args.w c.args.store.now c.ge
 pub returns-in-GetStyle-clause-kept : goal.returns-in-GetStyle-clause-kept
 returns-in-GetStyle-clause-kept c = keeps_of c.args.w c.args.store.now c.get_style.new.store c.get_style.ensures.kept
 
-pub returns-in-GetClass-clause-native : goal.returns-in-GetClass-clause-native
-returns-in-GetClass-clause-native c = of_method c.args.w c.args.store.now c.get_attribute.new.store c.args.page.now c.args.around.now c.args.meter.now c.get_attribute.new.meter (map (number c.args.page.now c.args.w) c.args.list.now) (seen c.args.w c.args.store.now.cells c.args.first.now) c.get_attribute.result c.args.method method.GetClass c.in-GetClass.is (c.get_attribute.ensures.native c.args.around.now c.requires.sound)
-
-pub returns-in-GetClass-clause-holds : goal.returns-in-GetClass-clause-holds
-returns-in-GetClass-clause-holds c = (sound_stays c.args.w c.args.store.now c.get_attribute.new.store c.args.page.now c.args.around.now c.requires.sound (c.get_attribute.ensures.kept [])).holds
-
-pub returns-in-GetClass-clause-kept : goal.returns-in-GetClass-clause-kept
-returns-in-GetClass-clause-kept c = keeps_of c.args.w c.args.store.now c.get_attribute.new.store c.get_attribute.ensures.kept
-
-pub returns-in-GetTitle-clause-native : goal.returns-in-GetTitle-clause-native
-returns-in-GetTitle-clause-native c = of_method c.args.w c.args.store.now c.get_attribute-in-GetTitle.new.store c.args.page.now c.args.around.now c.args.meter.now c.get_attribute-in-GetTitle.new.meter (map (number c.args.page.now c.args.w) c.args.list.now) (seen c.args.w c.args.store.now.cells c.args.first.now) c.get_attribute-in-GetTitle.result c.args.method method.GetTitle c.in-GetTitle.is (c.get_attribute-in-GetTitle.ensures.native c.args.around.now c.requires.sound)
-
-pub returns-in-GetTitle-clause-holds : goal.returns-in-GetTitle-clause-holds
-returns-in-GetTitle-clause-holds c = (sound_stays c.args.w c.args.store.now c.get_attribute-in-GetTitle.new.store c.args.page.now c.args.around.now c.requires.sound (c.get_attribute-in-GetTitle.ensures.kept [])).holds
-
-pub returns-in-GetTitle-clause-kept : goal.returns-in-GetTitle-clause-kept
-returns-in-GetTitle-clause-kept c = keeps_of c.args.w c.args.store.now c.get_attribute-in-GetTitle.new.store c.get_attribute-in-GetTitle.ensures.kept
-
 pub returns-in-GetCheck-clause-native : goal.returns-in-GetCheck-clause-native
 returns-in-GetCheck-clause-native c = at_method c.args.w c.args.store.now c.args.store.now c.args.page.now c.args.around.now c.args.meter.now c.get_check.new.meter (map (number c.args.page.now c.args.w) c.args.list.now) (seen c.args.w c.args.store.now.cells c.args.first.now) c.get_check.result c.args.method method.GetCheck c.in-GetCheck.is (c.get_check.ensures c.args.store.now c.args.around.now c.requires.sound)
 
@@ -76,20 +62,23 @@ returns-in-Count-clause-kept c = same_kept c.args.w c.args.store.now c.args.stor
 pub returns-in-GetParent-clause-native : goal.returns-in-GetParent-clause-native
 returns-in-GetParent-clause-native c = of_method c.args.w c.args.store.now c.get_parent.new.store c.args.page.now c.args.around.now c.args.meter.now c.get_parent.new.meter (map (number c.args.page.now c.args.w) c.args.list.now) (seen c.args.w c.args.store.now.cells c.args.first.now) c.get_parent.result c.args.method method.GetParent c.in-GetParent.is c.get_parent.ensures.native
 
-pub returns-in-GetTagName-clause-native : goal.returns-in-GetTagName-clause-native
-returns-in-GetTagName-clause-native c = of_method c.args.w c.args.store.now c.get_tag_name.new.store c.args.page.now c.args.around.now c.args.meter.now c.get_tag_name.new.meter (map (number c.args.page.now c.args.w) c.args.list.now) (seen c.args.w c.args.store.now.cells c.args.first.now) c.get_tag_name.result c.args.method method.GetTagName c.in-GetTagName.is (c.get_tag_name.ensures.native c.args.around.now c.requires.sound)
+pub show-requires-clause-other : goal.show-requires-clause-other
+show-requires-clause-other c = c.in_default.not-GetValue
 
-pub returns-in-GetTagName-clause-holds : goal.returns-in-GetTagName-clause-holds
-returns-in-GetTagName-clause-holds c = (sound_stays c.args.w c.args.store.now c.get_tag_name.new.store c.args.page.now c.args.around.now c.requires.sound (c.get_tag_name.ensures.kept [])).holds
+pub returns-in_default-clause-native : goal.returns-in_default-clause-native
+returns-in_default-clause-native c =
+    let w = c.args.w in
+    let p = c.args.page.now in
+    let ns = map (number p w) c.args.list.now in
+    let vs = seen w c.args.store.now.cells c.args.first.now ∷ [] in
+    let d = c.in_default in
+    IfOk-weaker c.show.result _ _
+    (λ o h. reads_same w c.args.store.now c.show.new.store p c.args.around.now c.args.meter.now c.show.new.meter (λ d s. read_method c.args.method ns vs s) (λ d s. show c.args.method ns s) o
+    (λ fs x b e. others_show c.args.method d.not-Explode d.not-Query d.not-GetValues d.not-GetStyle d.not-GetCheck d.not-Count d.not-GetParent ns vs _) h)
+    (c.show.ensures.native c.requires.sound)
 
-pub returns-in-GetTagName-clause-kept : goal.returns-in-GetTagName-clause-kept
-returns-in-GetTagName-clause-kept c = keeps_of c.args.w c.args.store.now c.get_tag_name.new.store c.get_tag_name.ensures.kept
+pub returns-in_default-clause-holds : goal.returns-in_default-clause-holds
+returns-in_default-clause-holds c = (sound_stays c.args.w c.args.store.now c.show.new.store c.args.page.now c.args.around.now c.requires.sound (c.show.ensures.kept [])).holds
 
-pub returns-in-GetMark-clause-native : goal.returns-in-GetMark-clause-native
-returns-in-GetMark-clause-native c = of_method c.args.w c.args.store.now c.get_mark.new.store c.args.page.now c.args.around.now c.args.meter.now c.get_mark.new.meter (map (number c.args.page.now c.args.w) c.args.list.now) (seen c.args.w c.args.store.now.cells c.args.first.now) c.get_mark.result c.args.method method.GetMark c.in-GetMark.is (c.get_mark.ensures.native c.requires.sound)
-
-pub returns-in-GetMark-clause-holds : goal.returns-in-GetMark-clause-holds
-returns-in-GetMark-clause-holds c = (sound_stays c.args.w c.args.store.now c.get_mark.new.store c.args.page.now c.args.around.now c.requires.sound (c.get_mark.ensures.kept [])).holds
-
-pub returns-in-GetMark-clause-kept : goal.returns-in-GetMark-clause-kept
-returns-in-GetMark-clause-kept c = keeps_of c.args.w c.args.store.now c.get_mark.new.store c.get_mark.ensures.kept
+pub returns-in_default-clause-kept : goal.returns-in_default-clause-kept
+returns-in_default-clause-kept c = keeps_of c.args.w c.args.store.now c.show.new.store c.show.ensures.kept

@@ -1,14 +1,7 @@
-use Rattle.std.proofs.Common.{sym, ap, ◌∙◌}
-use Rattle.std.specs.Prelude.{option_copied}
-use Rattle.query_walks.proofs.Members.{first_has}
-use Rattle.bunch_read.proofs.Reading.{checked_is, no_checked, some_mapped}
+use Rattle.std.proofs.Common.{ap, ◌∙◌}
+use Rattle.std.specs.Prelude.{is_some}
+use Rattle.bunch_read.proofs.Reading.{some_mapped}
 use Rattle.bunch_read.proofs.first.is_checked.Goals as goal
 
-pub attr_of_word-requires : goal.attr_of_word-requires
-attr_of_word-requires c = c.requires.own c.in-Some.node.now (first_has c.args.list.now c.in-Some.node.now (sym c.first.ensures.value ∙ ap option_copied c.in-Some.is))
-
-pub returns-in-Some : goal.returns-in-Some
-returns-in-Some c = λ s there. checked_is c.args.page.now c.args.w s there c.args.list.now c.in-Some.node.now (option_copied c.attr_of_word.result) c.is_some.result (sym c.first.ensures.value ∙ ap option_copied c.in-Some.is) c.attr_of_word.ensures (c.is_some.ensures ∙ some_mapped _ c.attr_of_word.result)
-
-pub returns-in-None : goal.returns-in-None
-returns-in-None c = λ s there. no_checked c.args.page.now c.args.w s there c.args.list.now (sym c.first.ensures.value ∙ ap option_copied c.in-None.is)
+pub returns : goal.returns
+returns c = λ s there. c.is_some.ensures ∙ some_mapped _ c.first_found.result ∙ ap is_some (c.first_found.ensures s there)

@@ -13,9 +13,6 @@ use Rattle.native_image.proofs.Meeting.{reads_by, reads_free}
 use Rattle.bunch_read.proofs.Reading.{small}
 use Rattle.bunch_read.proofs.styles.get_style.Goals as goal
 
-pub first_attribute-requires : goal.first_attribute-requires
-first_attribute-requires c = c.requires.nodes.own
-
 pub returns-then-is_object-clause-native : goal.returns-then-is_object-clause-native
 returns-then-is_object-clause-native c = λ l sound.
     let w = c.args.w in

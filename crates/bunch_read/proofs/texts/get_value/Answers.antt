@@ -2,6 +2,7 @@ use Rattle.std.proofs.Common.{length, map, sym, ap, ◌∙◌}
 use Rattle.std.specs.Prelude.{option_copied}
 use Rattle.std.proofs.lemmas.Result.{IfOk-weaker}
 use Rattle.query_walks.proofs.Members.{first_has}
+use Rattle.permitted_table.specs.declared.native.ReadNative.TheVariants.{GetValue}
 use Rattle.widget_meaning.specs.BunchReads as means
 use Rattle.page_image.specs.Image.{number}
 use Rattle.native_image.specs.Image.{beside, image}
@@ -23,7 +24,7 @@ returns-in-Some-clause-native c = λ l sound.
     let old = c.args.store.now in
     let n = c.in-Some.node.now in
     IfOk-weaker c.give_value.result _ _
-    (λ o h. reads_same w old c.give_value.new.store p l c.args.meter.now c.give_value.new.meter (λ d s. means.get_value (map (number p w) c.args.list.now) s) (λ d s. value_plan (length c.args.list.now) (means.value_of s (number p w n)) s) o
+    (λ o h. reads_same w old c.give_value.new.store p l c.args.meter.now c.give_value.new.meter (λ d s. means.show GetValue (map (number p w) c.args.list.now) s) (λ d s. value_plan (length c.args.list.now) (means.value_of s (number p w n)) s) o
     (λ fs x b d. get_value_is p w (image fs x w (beside old p l b)) c.args.list.now n (sym c.first.ensures.value ∙ ap option_copied c.in-Some.is)) h)
     (c.give_value.ensures.native l sound)
 
@@ -31,5 +32,5 @@ pub returns-in-None-clause-native : goal.returns-in-None-clause-native
 returns-in-None-clause-native c = λ l sound.
     let p = c.args.page.now in
     let old = c.args.store.now in
-    reads_free c.args.w old p l sound c.args.meter.now (λ d s. means.get_value (map (number p c.args.w) c.args.list.now) s) _ tt (λ v h. tt)
+    reads_free c.args.w old p l sound c.args.meter.now (λ d s. means.show GetValue (map (number p c.args.w) c.args.list.now) s) _ tt (λ v h. tt)
     (λ fs x b d. no_value p c.args.w (image fs x c.args.w (beside old p l b)) c.args.list.now (sym c.first.ensures.value ∙ ap option_copied c.in-None.is))
