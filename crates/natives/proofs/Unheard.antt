@@ -1,5 +1,5 @@
 -- A room that is not told the numbers of the nodes asks for handlers at none.
-use Rattle.std.proofs.Common.{◌≡◌, ℕ, List, refl, sym, ap, ◌∙◌, length}
+use Rattle.std.proofs.Common.{◌≡◌, ℕ, List, [], refl, sym, ap, ◌∙◌, length}
 use Rattle.js_tree.specs.Forest.{Forest}
 use Rattle.store_cells.specs.Cells.{Cells}
 use Rattle.store_cells.specs.declared.value.Value.{Value as StoreValue}
