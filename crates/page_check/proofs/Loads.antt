@@ -20,7 +20,6 @@ use Rattle.page_plan.specs.declared.PageSpec.{PageSpec}
 use Rattle.page_plan.specs.Pages.{PagePiece, Trees, Place, piece_of}
 use Rattle.page_plan.specs.Loadable.{most_high, most_of_page, IsSwapLoadable, IsLoadableSlot, trees_in, numbers_in, AreLoadablePieces, AreLoadableChannels, AreLoadableSwaps, names_of, IsLoadable}
 use Rattle.page_check.specs.declared.page.JudgedPage.{JudgedPage}
-use Rattle.page_check.specs.declared.slots.NamedSlot.{NamedSlot}
 use Rattle.page_check.specs.Runs.{SlotRun, slots_named, runs_over, swap_runs, pieces_from, pieces}
 use Rattle.page_check.specs.Fits.{markup_of, AreFit, IsFit}
 use Rattle.page_check.specs.Judged.{key_of, name_of, AreJudgedSlots, none, more, AreJudgedSwaps, IsJudgedPage}
@@ -126,7 +125,7 @@ few_and_distinct names are = by (nat_le (length names) most_slots) refl are
 pub names_are : (scripts : List Accepted) (libs : List Source) (named : List (List ℕ × ℕ)) (files : List Source) (spec : PageSpec) (refusals : List (Option Refusal)) → length named ≡ length files → AreJudgedSlots scripts (runs_over libs named files) spec.slots.items refusals → names_of spec ≡ map first_of named
 names_are scripts libs named files spec refusals same judged = slots_named_as scripts (runs_over libs named files) spec.slots.items refusals judged ∙ runs_named libs named files same
 
-pub keys_are : (names : List NamedSlot) → map key_of names ≡ map first_of (map name_of names)
+pub keys_are : (names : List SlotSpec) → map key_of names ≡ map first_of (map name_of names)
 keys_are [] = refl
 keys_are (n ∷ ns) = ap (λ ks. key_of n ∷ ks) (keys_are ns)
 
@@ -147,7 +146,7 @@ module _ (parts : List Part) (libs files : List Source) (scripts : List Accepted
 
 -- ## All that is judged
 
-module _ (manifest : Manifest) (libs files : List Source) (scripts : List Accepted) (page : JudgedPage) (names : List NamedSlot) (named : map name_of names ≡ slots_named (map part_of manifest.entries.items)) (fit : IsFit manifest) (paired : length (slots_named (map part_of manifest.entries.items)) ≡ length files) (clean : All IsCleanLib scripts) (same : page.spec.libs.items ≡ scripts) (channels : page.spec.channels.items ≡ manifest.channels.items) (judged : AreJudgedSlots scripts (runs_over libs (map name_of names) files) page.spec.slots.items page.refusals.items) (fits : All (λ (s : SlotSpec). IsSwapLoadable (length scripts) s.name s.content) page.spec.slots.items) (pieced : map piece_of page.spec.pieces.items ≡ pieces (map part_of manifest.entries.items)) where
+module _ (manifest : Manifest) (libs files : List Source) (scripts : List Accepted) (page : JudgedPage) (names : List SlotSpec) (named : map name_of names ≡ slots_named (map part_of manifest.entries.items)) (fit : IsFit manifest) (paired : length (slots_named (map part_of manifest.entries.items)) ≡ length files) (clean : All IsCleanLib scripts) (same : page.spec.libs.items ≡ scripts) (channels : page.spec.channels.items ≡ manifest.channels.items) (judged : AreJudgedSlots scripts (runs_over libs (map name_of names) files) page.spec.slots.items page.refusals.items) (fits : All (λ (s : SlotSpec). IsSwapLoadable (length scripts) s.name s.content) page.spec.slots.items) (pieced : map piece_of page.spec.pieces.items ≡ pieces (map part_of manifest.entries.items)) where
   slots_judged : AreJudgedSlots scripts (runs_over libs (slots_named (map part_of manifest.entries.items)) files) page.spec.slots.items page.refusals.items
   slots_judged = subst (λ ns. AreJudgedSlots scripts (runs_over libs ns files) page.spec.slots.items page.refusals.items) named judged
 

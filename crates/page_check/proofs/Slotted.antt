@@ -1,5 +1,6 @@
 -- The slots of a page, one by one.
-use Rattle.std.proofs.Common.{◌≡◌, ℕ, ◌<◌, ◌≤◌, ◌+◌, ◌^◌, List, [], ◌∷◌, ◌++◌, length, take, map, get_or, All, Option, Some, None, refl, sym, ap, subst, ◌∙◌, arith, length-take}
+use Rattle.std.proofs.Common.{◌≡◌, ℕ, ◌<◌, ◌≤◌, ◌+◌, ◌^◌, List, [], ◌∷◌, ◌++◌, length, length-append, take, map, get_or, All, Option, Some, None, zero, suc, refl, sym, ap, subst, ◌∙◌, arith}
+use Rattle.std.specs.Prelude.{slice_get}
 use Rattle.std.proofs.lemmas.List.{length-map, map-append, take_more, take_all, flat_map_more}
 use Rattle.std.proofs.lemmas.List.Elements.{All-push}
 use Rattle.js_tree.specs.Trees.{program_of}
@@ -16,18 +17,17 @@ use Rattle.slot_check.specs.declared.sources.SourceFile.{SourceFile}
 use Rattle.slot_check.specs.declared.verdict.Widget.{Widget}
 use Rattle.slot_check.specs.Sources.{Source, Slot, keys_of}
 use Rattle.slot_check.specs.Slot.{named_libs}
-use Rattle.slot_check.specs.Verdicts.{source_of, sources_of, IsAcceptedWidget, IsRefused, Refuses}
-use Rattle.slot_check.proofs.Judging.{sources_more}
+use Rattle.slot_check.specs.Verdicts.{source_of, sources_of, slot_of, IsAcceptedWidget, IsRefused, Refuses}
+use Rattle.slot_check.proofs.Judging.{there_at}
 use Rattle.page_plan.specs.declared.SlotContent.{SlotContent}
 use Rattle.page_plan.specs.declared.SlotContent.TheVariants as slot
 use Rattle.page_plan.specs.declared.SlotSpec.{SlotSpec}
 use Rattle.page_plan.specs.Contents.{program_at, content_of}
 use Rattle.page_plan.specs.Loadable.{IsLoadableWidget, IsSwapLoadable}
 use Rattle.page_check.specs.declared.contents.JudgedContent.{JudgedContent}
-use Rattle.page_check.specs.declared.slots.NamedSlot.{NamedSlot}
 use Rattle.page_check.specs.Runs.{SlotRun, named, slots_named, runs_over}
 use Rattle.page_check.specs.Widgets.{widget, HasWidget}
-use Rattle.page_check.specs.Judged.{KeepsLibraries, name_of, run_of, content_in, IsJudged, accepted, refused, IsJudgedSlot, AreJudgedSlots, none, more}
+use Rattle.page_check.specs.Judged.{KeepsLibraries, name_of, content_in, IsJudged, accepted, refused, IsJudgedSlot, AreJudgedSlots, none, more}
 use Rattle.page_check.proofs.Heights.{widget_low, widget_few}
 use Rattle.page_check.proofs.Libs.{as_many, programs_kept, places_kept, clean_within}
 
@@ -38,6 +38,23 @@ named_more es i e old new within is before after =
     let whole : take (i + 1) es ≡ take i es ++ e ∷ [] = take_more es i e within ∙ ap (λ x. take i es ++ x ∷ []) (sym is) in
     after ∙ ap (λ ns. ns ++ named (part_of e)) before ∙ flat_map_more named [] (map part_of (take i es)) (part_of e)
     ∙ sym (ap (λ xs. slots_named (map part_of xs)) whole ∙ ap slots_named (map-append part_of (take i es) (e ∷ [])))
+
+front_named : (n : ℕ) (es : List Entry) → length (slots_named (map part_of (take n es))) ≤ length (slots_named (map part_of es))
+front_named zero es = omega arith
+front_named (suc n) [] = omega arith
+front_named (suc n) (e ∷ es) =
+    omega (arith, front_named n es, length-append (named (part_of e)) (slots_named (map part_of (take n es))), length-append (named (part_of e)) (slots_named (map part_of es)))
+
+named_within : (es : List Entry) (i : ℕ) (e : Entry) (old : List (List ℕ × ℕ)) (name : List ℕ × ℕ) → i < length es → e ≡ get_or es i e → old ≡ slots_named (map part_of (take i es)) → named (part_of e) ≡ name ∷ [] → length old < length (slots_named (map part_of es))
+named_within es i e old name within is before one =
+    let more = named_more es i e old (old ++ named (part_of e)) within is before refl in
+    omega (arith, front_named (i + 1) es, ap length more, length-append old (named (part_of e)), ap length one)
+
+-- there is a file for each slot that comes
+pub slot_within : (es : List Entry) (i : ℕ) (e : Entry) (slots : List SlotSpec) (files : List SourceFile) (name : List ℕ × ℕ) → i < length es → e ≡ get_or es i e → map name_of slots ≡ slots_named (map part_of (take i es)) → named (part_of e) ≡ name ∷ [] → length (slots_named (map part_of es)) ≡ length files → length slots < length files
+slot_within es i e slots files name within is before one paired =
+    let w = named_within es i e (map name_of slots) name within is before one in
+    omega (arith, w, length-map slots name_of, paired)
 
 pub named_all : (es : List Entry) (i : ℕ) (names : List (List ℕ × ℕ)) → length es ≤ i → names ≡ slots_named (map part_of (take i es)) → names ≡ slots_named (map part_of es)
 named_all es i names past gathered = gathered ∙ ap (λ xs. slots_named (map part_of xs)) (take_all i es past)
@@ -96,48 +113,45 @@ module _ (judged : JudgedContent) (refusal : Refusal) (is : judged ≡ record { 
   pub refused_fits : (many : ℕ) (name : List ℕ) → IsSwapLoadable many name judged.content
   refused_fits many name = subst (λ (j : JudgedContent). IsSwapLoadable many name j.content) (sym is) tt
 
--- a slot with what was judged of its file
-pub judged_is : (libs : List Accepted) (run : SlotRun) (name : List ℕ) (content : SlotContent) (refusal : Option Refusal) → name ≡ run.slot.name → IsJudged run.slot (content_of libs content) refusal → IsJudgedSlot libs run (record { name = name; fuel = run.fuel; content = content }) refusal
-judged_is libs run name content refusal named is = record { name = named; fuel = refl; judged = is }
-
 -- ## All slots
 
 push_slot : (libs : List Accepted) (runs : List SlotRun) (slots : List SlotSpec) (refusals : List (Option Refusal)) (run : SlotRun) (slot : SlotSpec) (refusal : Option Refusal) → AreJudgedSlots libs runs slots refusals → IsJudgedSlot libs run slot refusal → AreJudgedSlots libs (runs ++ run ∷ []) (slots ++ slot ∷ []) (refusals ++ refusal ∷ [])
 push_slot libs runs slots refusals run slot refusal none is = more is none
 push_slot libs runs slots refusals run slot refusal (more {runs = rs} {slots = ss} {refusals = fs} has rest) is = more has (push_slot libs rs ss fs run slot refusal rest is)
 
-runs_push : (libs : List Source) (names : List (List ℕ × ℕ)) (files : List Source) (name : List ℕ × ℕ) (file : Source) → length names ≡ length files → runs_over libs (names ++ name ∷ []) (files ++ file ∷ []) ≡ runs_over libs names files ++ record { slot = record { name = name.0; file = file; libs = libs }; fuel = name.1 } ∷ []
-runs_push libs [] [] name file same = refl
-runs_push libs [] (f ∷ fs) name file same = absurd (omega arith)
-runs_push libs (n ∷ ns) [] name file same = absurd (omega arith)
-runs_push libs (n ∷ ns) (f ∷ fs) name file same = ap (λ rs. record { slot = record { name = n.0; file = f; libs = libs }; fuel = n.1 } ∷ rs) (runs_push libs ns fs name file (omega arith))
+none_some : (file : Source) → None ≡ Some file → ⊥
+none_some file e = cc
 
-module _ (libs : List SourceFile) (names : List NamedSlot) (files : List SourceFile) (i : ℕ) (name : NamedSlot) (file : SourceFile) (same : length names ≡ length files) (within : i < length names) (is : name ≡ get_or names i name) (also : file ≡ get_or files i file) where
-  runs_more : runs_over (sources_of libs) (map name_of (take (i + 1) names)) (sources_of (take (i + 1) files)) ≡ runs_over (sources_of libs) (map name_of (take i names)) (sources_of (take i files)) ++ run_of name file libs ∷ []
-  runs_more =
-      let here : i < length files = omega arith in
-      let ns : map name_of (take (i + 1) names) ≡ map name_of (take i names) ++ name_of name ∷ [] =
-      ap (map name_of) (take_more names i name within ∙ ap (λ n. take i names ++ n ∷ []) (sym is)) ∙ map-append name_of (take i names) (name ∷ []) in
-      let fs = sources_more files i file here also in
-      let even : length (map name_of (take i names)) ≡ length (sources_of (take i files)) = omega (arith, length-take i names, length-map (take i names) name_of, length-map (take i files) source_of, length-take i files) in
-      ap (λ n. runs_over (sources_of libs) n (sources_of (take (i + 1) files))) ns ∙ ap (runs_over (sources_of libs) (map name_of (take i names) ++ name_of name ∷ [])) fs
-      ∙ runs_push (sources_of libs) (map name_of (take i names)) (sources_of (take i files)) (name_of name) (source_of file) even
+some_is : (a b : Source) → Some a ≡ Some b → a ≡ b
+some_is a b e = cc
 
-  pub slots_more : (scripts : List Accepted) (slots grown : List SlotSpec) (refusals longer : List (Option Refusal)) (slot : SlotSpec) (refusal : Option Refusal) → AreJudgedSlots scripts (runs_over (sources_of libs) (map name_of (take i names)) (sources_of (take i files))) slots refusals → IsJudgedSlot scripts (run_of name file libs) slot refusal → grown ≡ slots ++ slot ∷ [] → longer ≡ refusals ++ refusal ∷ [] → AreJudgedSlots scripts (runs_over (sources_of libs) (map name_of (take (i + 1) names)) (sources_of (take (i + 1) files))) grown longer
-  slots_more scripts slots grown refusals longer slot refusal before this after behind =
-      let whole = push_slot scripts (runs_over (sources_of libs) (map name_of (take i names)) (sources_of (take i files))) slots refusals (run_of name file libs) slot refusal before this in
-      subst (λ g. AreJudgedSlots scripts (runs_over (sources_of libs) (map name_of (take (i + 1) names)) (sources_of (take (i + 1) files))) g longer) (sym after)
-      (subst (AreJudgedSlots scripts (runs_over (sources_of libs) (map name_of (take (i + 1) names)) (sources_of (take (i + 1) files))) (slots ++ slot ∷ [])) (sym behind)
-      (subst (λ rs. AreJudgedSlots scripts rs (slots ++ slot ∷ []) (refusals ++ refusal ∷ [])) (sym runs_more) whole))
+runs_none : (libs : List Source) (files : List Source) → runs_over libs [] files ≡ []
+runs_none libs [] = refl
+runs_none libs (f ∷ fs) = refl
 
-pub no_slots : (scripts : List Accepted) (slots : List SlotSpec) (refusals : List (Option Refusal)) → slots ≡ [] → refusals ≡ [] → AreJudgedSlots scripts [] slots refusals
-no_slots scripts slots refusals is also = subst (λ s. AreJudgedSlots scripts [] s refusals) (sym is) (subst (AreJudgedSlots scripts [] []) (sym also) none)
+runs_more : (libs : List Source) (slots : List SlotSpec) (slot : SlotSpec) (files : List Source) (file : Source) → slice_get files (length slots) ≡ Some file → runs_over libs (map name_of (slots ++ slot ∷ [])) files ≡ runs_over libs (map name_of slots) files ++ record { slot = record { name = slot.name; file = file; libs = libs }; fuel = slot.fuel } ∷ []
+runs_more libs [] slot [] file there = absurd (none_some file there)
+runs_more libs [] slot (f ∷ fs) file there = λ j. record { slot = record { name = slot.name; file = some_is f file there j; libs = libs }; fuel = slot.fuel } ∷ runs_none libs fs j
+runs_more libs (s ∷ slots) slot [] file there = absurd (none_some file there)
+runs_more libs (s ∷ slots) slot (f ∷ fs) file there = ap (λ rs. record { slot = record { name = s.name; file = f; libs = libs }; fuel = s.fuel } ∷ rs) (runs_more libs slots slot fs file there)
 
-pub slots_all : (scripts : List Accepted) (libs : List Source) (names : List NamedSlot) (files : List SourceFile) (i : ℕ) (slots : List SlotSpec) (refusals : List (Option Refusal)) → length names ≡ length files → length names ≤ i → AreJudgedSlots scripts (runs_over libs (map name_of (take i names)) (sources_of (take i files))) slots refusals → AreJudgedSlots scripts (runs_over libs (map name_of names) (sources_of files)) slots refusals
-slots_all scripts libs names files i slots refusals same past judged =
-    let ns = take_all i names past in
-    let fs = take_all i files (omega arith) in
-    subst (λ f. AreJudgedSlots scripts (runs_over libs (map name_of names) (sources_of f)) slots refusals) fs (subst (λ n. AreJudgedSlots scripts (runs_over libs (map name_of n) (sources_of (take i files))) slots refusals) ns judged)
+pub slots_more : (scripts : List Accepted) (libs : List SourceFile) (files : List SourceFile) (slots grown : List SlotSpec) (refusals longer : List (Option Refusal)) (slot : SlotSpec) (file : SourceFile) (refusal : Option Refusal) (i : ℕ) → i ≡ length slots → i < length files → file ≡ get_or files i file → AreJudgedSlots scripts (runs_over (sources_of libs) (map name_of slots) (sources_of files)) slots refusals → IsJudged (slot_of slot.name file libs) (content_of scripts slot.content) refusal → grown ≡ slots ++ slot ∷ [] → longer ≡ refusals ++ refusal ∷ [] → AreJudgedSlots scripts (runs_over (sources_of libs) (map name_of grown) (sources_of files)) grown longer
+slots_more scripts libs files slots grown refusals longer slot file refusal i count within is before this after behind =
+    let there : slice_get (sources_of files) (length slots) ≡ Some (source_of file) = ap (slice_get (sources_of files)) (sym count) ∙ there_at files i file within is in
+    let run : SlotRun = record { slot = slot_of slot.name file libs; fuel = slot.fuel } in
+    let whole = push_slot scripts (runs_over (sources_of libs) (map name_of slots) (sources_of files)) slots refusals run slot refusal before (record { name = refl; fuel = refl; judged = this }) in
+    subst (λ g. AreJudgedSlots scripts (runs_over (sources_of libs) (map name_of g) (sources_of files)) g longer) (sym after)
+    (subst (AreJudgedSlots scripts (runs_over (sources_of libs) (map name_of (slots ++ slot ∷ [])) (sources_of files)) (slots ++ slot ∷ [])) (sym behind)
+    (subst (λ rs. AreJudgedSlots scripts rs (slots ++ slot ∷ []) (refusals ++ refusal ∷ [])) (sym (runs_more (sources_of libs) slots slot (sources_of files) (source_of file) there)) whole))
+
+pub slots_same : (scripts : List Accepted) (libs files : List Source) (slots grown : List SlotSpec) (refusals longer : List (Option Refusal)) → AreJudgedSlots scripts (runs_over libs (map name_of slots) files) slots refusals → grown ≡ slots → longer ≡ refusals → AreJudgedSlots scripts (runs_over libs (map name_of grown) files) grown longer
+slots_same scripts libs files slots grown refusals longer before after behind =
+    subst (λ (g : List SlotSpec). AreJudgedSlots scripts (runs_over libs (map name_of g) files) g longer) (sym after)
+    (subst (AreJudgedSlots scripts (runs_over libs (map name_of slots) files) slots) (sym behind) before)
+
+pub no_slots : (scripts : List Accepted) (libs files : List Source) (slots : List SlotSpec) (refusals : List (Option Refusal)) → slots ≡ [] → refusals ≡ [] → AreJudgedSlots scripts (runs_over libs (map name_of slots) files) slots refusals
+no_slots scripts libs files slots refusals is also = subst (λ (s : List SlotSpec). AreJudgedSlots scripts (runs_over libs (map name_of s) files) s refusals) (sym is)
+    (subst (λ rs. AreJudgedSlots scripts rs [] refusals) (sym (runs_none libs files)) (subst (AreJudgedSlots scripts [] []) (sym also) none))
 
 -- ## What a host may load
 

@@ -12,10 +12,10 @@ use Rattle.slot_check.specs.Sources.{Source}
 use Rattle.slot_check.specs.Verdicts.{source_of, sources_of, slot_of}
 use Rattle.slot_check.proofs.Judging.{sources_more}
 use Rattle.page_plan.specs.declared.SlotContent.{SlotContent}
+use Rattle.page_plan.specs.declared.SlotSpec.{SlotSpec}
 use Rattle.page_plan.specs.Contents.{content_of}
 use Rattle.page_plan.specs.Loadable.{IsSwapLoadable, AreLoadableSwaps}
 use Rattle.page_plan.specs.Loadable as loadable
-use Rattle.page_check.specs.declared.slots.NamedSlot.{NamedSlot}
 use Rattle.page_check.specs.Runs.{SlotRun, runs_over, with_file, swap_run, swap_runs}
 use Rattle.page_check.specs.Judged.{key_of, name_of, IsJudged, AreJudgedSwaps, no_swap, one_swap}
 
@@ -69,17 +69,17 @@ push_loadable many names tos contents to name content loadable.none there is = l
 push_loadable many names tos contents to name content (loadable.more {tos = ts} {contents = cs} has fits rest) there is = loadable.more has fits (push_loadable many names ts cs to name content rest there is)
 
 -- what the swaps of these slots, with these files, come to
-abbrev pub SwapsSoFar : List Accepted → List Source → List NamedSlot → List ℕ → List Source → List SlotContent → List (Option Refusal) → Type 0
+abbrev pub SwapsSoFar : List Accepted → List Source → List SlotSpec → List ℕ → List Source → List SlotContent → List (Option Refusal) → Type 0
 SwapsSoFar scripts libs names tos files contents refusals =
     (own : List Source) → length own ≡ length names → AreJudgedSwaps scripts (swap_runs (runs_over libs (map name_of names) own) (zip tos files)) contents refusals
 
-pub no_swaps : (scripts : List Accepted) (libs : List Source) (names : List NamedSlot) (contents : List SlotContent) (refusals : List (Option Refusal)) → contents ≡ [] → refusals ≡ [] → SwapsSoFar scripts libs names [] [] contents refusals
+pub no_swaps : (scripts : List Accepted) (libs : List Source) (names : List SlotSpec) (contents : List SlotContent) (refusals : List (Option Refusal)) → contents ≡ [] → refusals ≡ [] → SwapsSoFar scripts libs names [] [] contents refusals
 no_swaps scripts libs names contents refusals is also own same = subst (λ cs. AreJudgedSwaps scripts [] cs refusals) (sym is) (subst (AreJudgedSwaps scripts [] []) (sym also) no_swap)
 
-pub none_fit : (many : ℕ) (names : List NamedSlot) (contents : List SlotContent) → contents ≡ [] → AreLoadableSwaps many (map key_of names) [] contents
+pub none_fit : (many : ℕ) (names : List SlotSpec) (contents : List SlotContent) → contents ≡ [] → AreLoadableSwaps many (map key_of names) [] contents
 none_fit many names contents is = subst (AreLoadableSwaps many (map key_of names) []) (sym is) loadable.none
 
-module _ (libs : List SourceFile) (names : List NamedSlot) (tos : List ℕ) (files : List SourceFile) (i to : ℕ) (name : NamedSlot) (file : SourceFile) (same : length tos ≡ length files) (within : i < length tos) (there : to < length names) (at : to ≡ get_or tos i 0) (is : name ≡ get_or names to name) (also : file ≡ get_or files i file) where
+module _ (libs : List SourceFile) (names : List SlotSpec) (tos : List ℕ) (files : List SourceFile) (i to : ℕ) (name : SlotSpec) (file : SourceFile) (same : length tos ≡ length files) (within : i < length tos) (there : to < length names) (at : to ≡ get_or tos i 0) (is : name ≡ get_or names to name) (also : file ≡ get_or files i file) where
   found : slice_get names to ≡ Some name
   found = slice_get-get_or names to name there ∙ ap Some (sym is)
 
@@ -113,10 +113,10 @@ module _ (libs : List SourceFile) (names : List NamedSlot) (tos : List ℕ) (fil
       (subst (AreLoadableSwaps many (map key_of names) (take i tos ++ to ∷ [])) (sym after)
       (push_loadable many (map key_of names) (take i tos) contents to name.name content before (get_map key_of names to name found) this))
 
-pub swaps_all : (scripts : List Accepted) (libs : List Source) (names : List NamedSlot) (tos : List ℕ) (files : List SourceFile) (i : ℕ) (contents : List SlotContent) (refusals : List (Option Refusal)) → length tos ≡ length files → length tos ≤ i → SwapsSoFar scripts libs names (take i tos) (sources_of (take i files)) contents refusals → SwapsSoFar scripts libs names tos (sources_of files) contents refusals
+pub swaps_all : (scripts : List Accepted) (libs : List Source) (names : List SlotSpec) (tos : List ℕ) (files : List SourceFile) (i : ℕ) (contents : List SlotContent) (refusals : List (Option Refusal)) → length tos ≡ length files → length tos ≤ i → SwapsSoFar scripts libs names (take i tos) (sources_of (take i files)) contents refusals → SwapsSoFar scripts libs names tos (sources_of files) contents refusals
 swaps_all scripts libs names tos files i contents refusals same past judged =
     subst (λ ts. SwapsSoFar scripts libs names ts (sources_of files) contents refusals) (take_all i tos past)
     (subst (λ fs. SwapsSoFar scripts libs names (take i tos) (sources_of fs) contents refusals) (take_all i files (omega (arith, same, past))) judged)
 
-pub fit_all : (many : ℕ) (names : List NamedSlot) (tos : List ℕ) (i : ℕ) (contents : List SlotContent) → length tos ≤ i → AreLoadableSwaps many (map key_of names) (take i tos) contents → AreLoadableSwaps many (map key_of names) tos contents
+pub fit_all : (many : ℕ) (names : List SlotSpec) (tos : List ℕ) (i : ℕ) (contents : List SlotContent) → length tos ≤ i → AreLoadableSwaps many (map key_of names) (take i tos) contents → AreLoadableSwaps many (map key_of names) tos contents
 fit_all many names tos i contents past fits = subst (λ ts. AreLoadableSwaps many (map key_of names) ts contents) (take_all i tos past) fits

@@ -12,17 +12,15 @@ use Rattle.manifest_reader.specs.declared.entry.Manifest.{Manifest}
 use Rattle.manifest_reader.specs.Page.{part_of}
 use Rattle.script_check.specs.Script.{IsScript}
 use Rattle.slot_check.specs.declared.fault.Refusal.{Refusal}
-use Rattle.slot_check.specs.declared.sources.SourceFile.{SourceFile}
 use Rattle.slot_check.specs.declared.verdict.Widget.{Widget}
 use Rattle.slot_check.specs.Sources.{Source, Slot}
-use Rattle.slot_check.specs.Verdicts.{slot_of, IsRefused, AreJudged}
+use Rattle.slot_check.specs.Verdicts.{IsRefused, AreJudged}
 use Rattle.widget_meaning.specs.Alone.{Content}
 use Rattle.page_plan.specs.declared.SlotContent.{SlotContent}
 use Rattle.page_plan.specs.declared.SlotSpec.{SlotSpec}
 use Rattle.page_plan.specs.Contents.{program_at, content_of}
 use Rattle.page_plan.specs.Pages.{piece_of}
 use Rattle.page_check.specs.declared.libraries.Later.{Later}
-use Rattle.page_check.specs.declared.slots.NamedSlot.{NamedSlot}
 use Rattle.page_check.specs.declared.page.JudgedPage.{JudgedPage}
 use Rattle.page_check.specs.Runs.{SlotRun, slots_named, runs_over, swap_runs, pieces}
 use Rattle.page_check.specs.Widgets.{HasWidget}
@@ -63,16 +61,12 @@ pub record KeepsOne (library : List ℕ) (old new : List Accepted) : Type 0 wher
 -- ## Slots
 
 -- the name of a slot
-abbrev pub key_of : NamedSlot → List ℕ
+abbrev pub key_of : SlotSpec → List ℕ
 key_of slot = slot.name
 
 -- the name and the fuel of a slot
-abbrev pub name_of : NamedSlot → List ℕ × ℕ
+abbrev pub name_of : SlotSpec → List ℕ × ℕ
 name_of slot = (slot.name, slot.fuel)
-
--- a slot with its file and its libraries
-abbrev pub run_of : NamedSlot → SourceFile → List SourceFile → SlotRun
-run_of slot file libs = record { slot = slot_of slot.name file libs; fuel = slot.fuel }
 
 -- a widget that was accepted, over the accepted libraries of its manifest and their places
 abbrev pub content_in : List Accepted → List ℕ → Widget → Content

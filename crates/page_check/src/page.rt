@@ -10,7 +10,7 @@ ghost use Rattle.page_check.specs.Fits.{IsFit};
 ghost use Rattle.page_check.specs.Judged.{IsJudgedPage, JudgesOver};
 
 use crate::libraries::{Later, accept_libraries};
-use crate::slots::{judge_slots, named_slots};
+use crate::slots::judge_slots;
 use crate::swaps::{JudgedSwaps, judge_swaps};
 use code_units::Memory;
 use manifest_reader::{Entry, Manifest};
@@ -58,9 +58,15 @@ pub fn judge_page(
     let all = accept_libraries(alloc, libs)?;
     let accepted = all.accepted;
     let mut later = all.later;
-    let names = named_slots(alloc, &manifest.entries)?;
-    let slots = judge_slots(alloc, &names, files, libs, &mut later)?;
-    let swaps = judge_swaps(alloc, &names, swap_slots, swap_files, libs, &mut later)?;
+    let slots = judge_slots(alloc, &manifest.entries, files, libs, &mut later)?;
+    let swaps = judge_swaps(
+        alloc,
+        &slots.slots,
+        swap_slots,
+        swap_files,
+        libs,
+        &mut later,
+    )?;
     let spec = PageSpec {
         pieces: pieces_of(alloc, manifest.entries)?,
         libs: accepted,

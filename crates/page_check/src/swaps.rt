@@ -9,9 +9,8 @@ ghost use Rattle.page_check.specs.Runs.{runs_over, swap_runs};
 ghost use Rattle.page_check.specs.Judged.{JudgesOn, JudgesOver, AreJudgedSwaps, name_of, key_of};
 
 use crate::libraries::Later;
-use crate::slots::NamedSlot;
 use code_units::Memory;
-use page_plan::SlotContent;
+use page_plan::{SlotContent, SlotSpec};
 use slot_check::{Refusal, SourceFile};
 use std::alloc::Global;
 
@@ -26,31 +25,31 @@ pub struct JudgedSwaps {
 /// their manifest.
 pub fn judge_swaps(
     alloc: Global,
-    names: &[NamedSlot],
+    specs: &[SlotSpec],
     slots: &[u32],
     files: &[SourceFile],
     libs: &[SourceFile],
     later: &mut Later,
 ) -> Result<JudgedSwaps, Memory>
     requires paired { length slots.now ≡ length files.now }
-    requires there { All (λ to. to < length names.now) slots.now }
+    requires there { All (λ to. to < length specs.now) slots.now }
     requires small { All IsSmall files.now }
     requires small_libs { All IsSmall libs.now }
     requires over { (accepted : List Accepted) × JudgesOver (sources_of libs.now) accepted later.old }
     ensures judged { IfOk result (λ all. (accepted : List Accepted)
         → JudgesOver (sources_of libs.now) accepted later.old
-        → (own : List Source) → length own ≡ length names.now → AreJudgedSwaps accepted
-        (swap_runs (runs_over (sources_of libs.now) (map name_of names.now) own)
+        → (own : List Source) → length own ≡ length specs.now → AreJudgedSwaps accepted
+        (swap_runs (runs_over (sources_of libs.now) (map name_of specs.now) own)
         (zip slots.now (sources_of files.now))) all.contents.items all.refusals.items) }
     ensures loadable { IfOk result (λ all. (accepted : List Accepted)
         → JudgesOver (sources_of libs.now) accepted later.old
-        → AreLoadableSwaps (length accepted) (map key_of names.now) slots.now all.contents.items) }
+        → AreLoadableSwaps (length accepted) (map key_of specs.now) slots.now all.contents.items) }
     ensures stays { OnOk result (JudgesOn (sources_of libs.now) later.old later.new) }
 {
     let mut contents = Vec::new(alloc);
     let mut refusals = Vec::new(alloc);
     'swaps: for (i, to) in slots.iter().enumerate() {
-        let slot = &names[*to as usize];
+        let slot = &specs[*to as usize];
         let one = later.judge(alloc, &slot.name, &files[i], libs)?;
         contents.push(one.content)?;
         refusals.push(one.refusal)?;

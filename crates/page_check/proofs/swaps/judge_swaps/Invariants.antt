@@ -8,7 +8,7 @@ use Rattle.page_check.proofs.swaps.judge_swaps.Given as goal
 
 abbrev pub invariant-swaps : goal.invariant-swaps
 invariant-swaps l = record {
-  swaps : (accepted : List Accepted) → JudgesOver (sources_of l.libs) accepted l.initial.later → SwapsSoFar accepted (sources_of l.libs) l.names (take l.i l.slots) (sources_of (take l.i l.files)) l.contents.items l.refusals.items;
-  loadable : (accepted : List Accepted) → JudgesOver (sources_of l.libs) accepted l.initial.later → AreLoadableSwaps (length accepted) (map key_of l.names) (take l.i l.slots) l.contents.items;
+  swaps : (accepted : List Accepted) → JudgesOver (sources_of l.libs) accepted l.initial.later → SwapsSoFar accepted (sources_of l.libs) l.specs (take l.i l.slots) (sources_of (take l.i l.files)) l.contents.items l.refusals.items;
+  loadable : (accepted : List Accepted) → JudgesOver (sources_of l.libs) accepted l.initial.later → AreLoadableSwaps (length accepted) (map key_of l.specs) (take l.i l.slots) l.contents.items;
   stays : JudgesOn (sources_of l.libs) l.initial.later l.later;
 }
