@@ -26,7 +26,7 @@ use Rattle.slot_lives.specs.Ends.{end_of}
 use Rattle.widget_host.specs.declared.host.Host.{Host}
 use Rattle.widget_host.specs.declared.items.HostItem.{HostItem}
 use Rattle.page_load.specs.Loads.{singles}
-use Rattle.slot_picks.specs.declared.crowd.Place.{Place}
+use Rattle.slot_picks.specs.declared.lives.Place.{Place}
 use Rattle.slot_picks.specs.Places.{accepts_of}
 use Rattle.widget_host.specs.Given.{AreEnded, AreRetired, begins, begun, gives_to, with_item, with_items, with_swap}
 use Rattle.widget_host.specs.Housed.{GivesItem, GivesSwap, IsHoused, IsLaid, Loads, accepts, chains, channels, ends, fuels, given, homes, libraries, marked, names, newborn, scripts, seens, told}
@@ -88,8 +88,8 @@ place_there (y ∷ ls) (suc k) is = place_there ls k is
 told_there : (h : Host) (v : ℕ) → accepts h v ≡ true → (n : ℕ) × (slice_get (told h) v ≡ Some n)
 unfolding accepts told
 told_there h v is =
-    let l = place_there h.crowd.places.items v is in
-    (l.0.told, slice_get-map (λ (p : Place). p.told) h.crowd.places.items v ∙ ap (option_map (λ (p : Place). p.told)) l.1)
+    let l = place_there h.lives.places.items v is in
+    (l.0.told, slice_get-map (λ (p : Place). p.told) h.lives.places.items v ∙ ap (option_map (λ (p : Place). p.told)) l.1)
 
 all_rest : (h : Host) → IsHoused h → marked h ≡ false → Rest (chains h) (seens h)
 unfolding IsHoused chains seens

@@ -29,11 +29,11 @@ use Rattle.turn_returns.specs.declared.turn.Turn.{Turn}
 use Rattle.life_queue.specs.Fine.{FineLife, FineTurn, KeepsCells, most_fuel, tally}
 use Rattle.life_queue.specs.Lives.{life_seen}
 use Rattle.life_queue.proofs.Apart.{LeavesPage, fine_left, holds_left, seen_left, turn_left}
-use Rattle.slot_picks.specs.declared.crowd.Crowd.{Crowd}
-use Rattle.slot_picks.specs.declared.crowd.Place.{Place}
+use Rattle.slot_picks.specs.declared.lives.Lives.{Lives}
+use Rattle.slot_picks.specs.declared.lives.Place.{Place}
 use Rattle.slot_picks.specs.declared.slots.Slot.{Slot}
 use Rattle.slot_picks.specs.Places.{FewPlace, FewPlaces, FinePlace, FinePlaces, OwnPlace, OwnPlaces, is_accepted, lent, seen_at, seens_from}
-use Rattle.slot_picks.specs.Crowds.{FineCrowd, seens_of}
+use Rattle.slot_picks.specs.Lives.{FineLives, seens_of}
 use Rattle.page_build.specs.Homes.{HaveRaws, IsAway, IsHome}
 use Rattle.page_build.specs.Layout.{IsLot, lot_of}
 use Rattle.page_build.specs.Standing.{HostJoins, IsSamePage, IsSpare, Joins}
@@ -86,7 +86,7 @@ root_joins v p q away j =
 pub below_32 : (v : ℕ) → v < 20 → v < 32
 below_32 v lt = omega (arith, lt)
 
-pub page_joins : (v : ℕ) (c : Crowd) (q : Page) → v < 20 → IsFree v c → Joins v c.shared.page q → PageJoins v c.shared.page q
+pub page_joins : (v : ℕ) (c : Lives) (q : Page) → v < 20 → IsFree v c → Joins v c.shared.page q → PageJoins v c.shared.page q
 page_joins v c q lt free j = root_joins v c.shared.page q (free.nothing.away (below_32 v lt)) j
 
 -- an empty `div` of the host came
@@ -264,7 +264,7 @@ module _ (v : ℕ) (h m : Shared) (cells : KeepsCells [] v h.store m.store) (pag
         let more : seens_from m (u + 1) (slice_set ls i b) ≡ slice_set (seens_from h (u + 1) ls) i (seen_at m v b) = seens_set b (u + 1) i ls (omega (arith, e)) (omega (arith, few)) f.1 in
         λ j. here j ∷ more j
 
--- ## The crowd
+-- ## The lives
 
 set_length : (ls : List Place) (i : ℕ) (b : Place) → length (slice_set ls i b) ≡ length ls
 set_length [] i b = refl
@@ -290,7 +290,7 @@ pub raws_later : (s t : Cells) (p : Page) (v : ℕ) → Kept [] v s t → HaveRa
 raws_later s t p v k h = λ n lt. raw_stays v s.cells t.cells k.grows n (h n lt)
 
 -- a life came into its place, whose number had nothing
-module _ (v : ℕ) (c d : Crowd) (b : Place) (set : d.places.items ≡ slice_set c.places.items v b) (few : v < 20) (fine : FineCrowd c) (journal : d.journal ≡ c.journal) (codes : d.shared.codes ≡ c.shared.codes)
+module _ (v : ℕ) (c d : Lives) (b : Place) (set : d.places.items ≡ slice_set c.places.items v b) (few : v < 20) (fine : FineLives c) (journal : d.journal ≡ c.journal) (codes : d.shared.codes ≡ c.shared.codes)
     (kept : Kept [] v c.shared.store d.shared.store) (page : PageJoins v c.shared.page d.shared.page) (raws : HaveRaws d.shared.store d.shared.page) where
   below : 0 + length c.places.items ≤ 32
   below = omega (arith, fine.places)
@@ -340,7 +340,7 @@ module _ (v : ℕ) (c d : Crowd) (b : Place) (set : d.places.items ≡ slice_set
       }
 
 -- where nothing changed but that nodes may have more cells
-pub rest_same : (v : ℕ) (c d : Crowd) → d.places ≡ c.places → d.journal ≡ c.journal → d.shared.codes ≡ c.shared.codes → v < 20 → FineCrowd c → IsFree v c → Kept [] v c.shared.store d.shared.store → PageJoins v c.shared.page d.shared.page → HaveRaws d.shared.store d.shared.page
+pub rest_same : (v : ℕ) (c d : Lives) → d.places ≡ c.places → d.journal ≡ c.journal → d.shared.codes ≡ c.shared.codes → v < 20 → FineLives c → IsFree v c → Kept [] v c.shared.store d.shared.store → PageJoins v c.shared.page d.shared.page → HaveRaws d.shared.store d.shared.page
     → (HasNothing v c.shared.store c.shared.page → HasNothing v d.shared.store d.shared.page) → KeepsRest v c d
 rest_same v c d places journal codes few fine free kept page raws here =
     let a = there c.places.items v (omega (arith, few, fine.places)) in
@@ -369,7 +369,7 @@ few_begun v fuel s b d begun n le = λ its. omega (arith, begun.few, le)
 its_confined : (fs : List Forest) (v : ℕ) (s t : Cells) → HasNoCells v s → Kept fs v s t → IsConfined fs v t
 its_confined fs v s t none kept = kept.confined (nothing_confined fs v s none)
 
-module _ (v : ℕ) (c d : Crowd) (a : Place) (lib root : ℕ) (set : d.places.items ≡ slice_set c.places.items v (seated lib a.life.slot root a)) (few : v < 20) (fine : FineCrowd c) (free : IsFree v c) (journal : d.journal ≡ c.journal) (codes : d.shared.codes ≡ c.shared.codes)
+module _ (v : ℕ) (c d : Lives) (a : Place) (lib root : ℕ) (set : d.places.items ≡ slice_set c.places.items v (seated lib a.life.slot root a)) (few : v < 20) (fine : FineLives c) (free : IsFree v c) (journal : d.journal ≡ c.journal) (codes : d.shared.codes ≡ c.shared.codes)
     (kept : (fs : List Forest) → Kept fs v c.shared.store d.shared.store) (page : PageJoins v c.shared.page d.shared.page) (raws : HaveRaws d.shared.store d.shared.page)
     (tree : PlainTrees) (home : IsHome d.shared.page v tree) (ready : (fuel : ℕ) × (s : Scripts) × (fuel ≤ most_fuel) × IsReady v fuel s a) where
   -- with the object `lib`
@@ -402,11 +402,11 @@ module _ (v : ℕ) (c d : Crowd) (a : Place) (lib root : ℕ) (set : d.places.it
       (λ none. absurd (no_true (sym none ∙ ready.3.life.accepted)))
 
 -- its root stands under nothing
-pub life_seat : (v : ℕ) (c d : Crowd) (a : Place) (lib root : ℕ) → d.places.items ≡ slice_set c.places.items v (seated lib a.life.slot root a) → ((fuel : ℕ) × (s : Scripts) × (fuel ≤ most_fuel) × IsReady v fuel s a) → root_of d.shared.page v ≡ Some root → IsSpare d.shared.page root → length (nodes c.shared.page) ≤ root → HasSeat v c d
+pub life_seat : (v : ℕ) (c d : Lives) (a : Place) (lib root : ℕ) → d.places.items ≡ slice_set c.places.items v (seated lib a.life.slot root a) → ((fuel : ℕ) × (s : Scripts) × (fuel ≤ most_fuel) × IsReady v fuel s a) → root_of d.shared.page v ≡ Some root → IsSpare d.shared.page root → length (nodes c.shared.page) ≤ root → HasSeat v c d
 life_seat v c d a lib root set ready at spare fresh = came (seated lib a.life.slot root a) set ready.3.life.accepted at spare fresh
 
 -- an empty `div`
-module _ (v to : ℕ) (name : List ℕ) (c d : Crowd) (b : Place) (set : d.places.items ≡ slice_set c.places.items v b) (few : v < 20) (fine : FineCrowd c) (free : IsFree v c) (journal : d.journal ≡ c.journal) (codes : d.shared.codes ≡ c.shared.codes)
+module _ (v to : ℕ) (name : List ℕ) (c d : Lives) (b : Place) (set : d.places.items ≡ slice_set c.places.items v b) (few : v < 20) (fine : FineLives c) (free : IsFree v c) (journal : d.journal ≡ c.journal) (codes : d.shared.codes ≡ c.shared.codes)
     (kept : (fs : List Forest) → Kept fs v c.shared.store d.shared.store) (joins : HostJoins c.shared.page d.shared.page) (same : owned v d.shared.store ≡ owned v c.shared.store) (raws : HaveRaws d.shared.store d.shared.page) (unborn : IsUnborn b) where
   its_page : PageJoins v c.shared.page d.shared.page
   its_page = host_joins v c.shared.page d.shared.page joins
@@ -440,7 +440,7 @@ ready_in w fuel to s a r = let n = r.life.new in record {
   queue = r.queue;
 }
 
-module _ (ts : List Tree) (s : Slot) (x : Coming) (c d : Crowd) where
+module _ (ts : List Tree) (s : Slot) (x : Coming) (c d : Lives) where
   pub comes_life : (tree : Plain) (places : Vec ℕ Global) (script : Accepted) (scripts : Scripts) (a : Place) → x.content ≡ slot.Runs tree places script → AreScriptsAt ts places.items script scripts → IsReady x.v s.fuel scripts a → IsIn x.to a → SeatsLife x.v (unplaced tree) a c d → Comes ts s x c d
   comes_life tree places script scripts a is are ready its j =
       let begun = j.begun s.fuel scripts ready in
@@ -482,11 +482,11 @@ pub unborn_seated : (a : Place) (to root : ℕ) → IsUnborn a → IsUnborn (rec
 unborn_seated a to root u = record { refused = u.refused; codes = u.codes }
 
 -- where nothing changed
-pub rest_here : (v : ℕ) (c : Crowd) → v < 20 → FineCrowd c → IsFree v c → HaveRaws c.shared.store c.shared.page → KeepsRest v c c
+pub rest_here : (v : ℕ) (c : Lives) → v < 20 → FineLives c → IsFree v c → HaveRaws c.shared.store c.shared.page → KeepsRest v c c
 rest_here v c few fine free raws = rest_same v c c refl refl refl few fine free (kept_same [] v c.shared.store c.shared.store refl) (page_stays v c.shared.page) raws (λ h. h)
 
 -- by what is answered
-pub seat_none : {E : Type 0} (r : Result (Unit {0}) E) (v : ℕ) (c d : Crowd) → d.places.items ≡ c.places.items → OnErr r (HasSeat v c d)
+pub seat_none : {E : Type 0} (r : Result (Unit {0}) E) (v : ℕ) (c d : Lives) → d.places.items ≡ c.places.items → OnErr r (HasSeat v c d)
 seat_none (Ok x) v c d e = tt
 seat_none (Err x) v c d e = none_came e
 

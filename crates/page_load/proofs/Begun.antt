@@ -38,7 +38,7 @@ use Rattle.life_queue.specs.declared.life.Life.{Life}
 use Rattle.life_queue.specs.Lives.{going_of, life_seen, meant_stop, own_of, post_of, trees_in, work_of, works_of}
 use Rattle.life_queue.specs.Fine.{FineLife, FineTurn, FineWork, KeepsCells, held_back, most_fuel, tally}
 use Rattle.life_queue.proofs.Apart.{fine_apart, seen_apart}
-use Rattle.slot_picks.specs.declared.crowd.Place.{Place}
+use Rattle.slot_picks.specs.declared.lives.Place.{Place}
 use Rattle.slot_picks.specs.Places.{lent}
 use Rattle.page_build.specs.Homes.{HaveRaws}
 use Rattle.page_load.specs.Laying.{IsUnused}

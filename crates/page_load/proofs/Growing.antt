@@ -28,9 +28,9 @@ use Rattle.life_queue.specs.declared.life.Script.{Script}
 use Rattle.life_queue.specs.declared.life.Work.{Work}
 use Rattle.life_queue.specs.declared.life.Work.TheVariants as work
 use Rattle.life_queue.specs.Lives.{function_of, work_of}
-use Rattle.slot_picks.specs.declared.crowd.Place.{Place}
+use Rattle.slot_picks.specs.declared.lives.Place.{Place}
 use Rattle.slot_picks.specs.declared.slots.Slot.{Slot}
-use Rattle.slot_picks.specs.Crowds.{chains_of}
+use Rattle.slot_picks.specs.Lives.{chains_of}
 use Rattle.life_queue.specs.Fine.{FineWork, most_fuel}
 use Rattle.page_plan.specs.declared.SlotSpec.{SlotSpec}
 use Rattle.adsafe_rules.specs.declared.accepted.Accepted.{Accepted}

@@ -10,9 +10,9 @@ use Rattle.page_build.specs.Standing.{AreSpots, Child, Fixed, InSlot, IsLaidBy, 
 use Rattle.page_build.proofs.Pieces.{spots_of_laid}
 use Rattle.page_plan.specs.Pages.{PagePiece}
 use Rattle.slot_laws.specs.Chains.{listed as has_one}
-use Rattle.slot_picks.specs.declared.crowd.Place.{Place as PlaceOf}
+use Rattle.slot_picks.specs.declared.lives.Place.{Place as PlaceOf}
 use Rattle.slot_picks.specs.Places.{roots_of}
-use Rattle.slot_picks.specs.Crowds.{is_present, present_of}
+use Rattle.slot_picks.specs.Lives.{is_present, present_of}
 use Rattle.page_load.specs.Laying.{LaysOut}
 use Rattle.page_load.specs.Lives.{HaveRoots}
 use Rattle.page_load.specs.Loads.{singles}

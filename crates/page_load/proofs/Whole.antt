@@ -25,10 +25,10 @@ use Rattle.widget_meaning.specs.Alone.{Content, beginning}
 use Rattle.life_laws.specs.Life.{due, image, waiting}
 use Rattle.slot_laws.specs.Chains.{Chains, listed as has_one}
 use Rattle.turn_returns.specs.declared.turn.Shared.{Shared}
-use Rattle.slot_picks.specs.declared.crowd.Place.{Place}
+use Rattle.slot_picks.specs.declared.lives.Place.{Place}
 use Rattle.slot_picks.specs.declared.slots.Slot.{Slot}
 use Rattle.slot_picks.specs.Places.{homes_of as homes_list, roots_of}
-use Rattle.slot_picks.specs.Crowds.{AreStanding, chains_of, is_present, present_of, spots_of}
+use Rattle.slot_picks.specs.Lives.{AreStanding, chains_of, is_present, present_of, spots_of}
 use Rattle.page_build.specs.Homes.{HaveRaws, IsAway, IsHome, IsPlaced}
 use Rattle.page_build.specs.Layout.{IsLot, home_of, lot_of}
 use Rattle.page_build.specs.Standing.{AreSpots, HavePlaces, IsLaidBy, IsStanding}
@@ -186,25 +186,25 @@ chains_from : (homes : List ℕ) (n w : ℕ) → w + n ≤ 16 → ((v : ℕ) →
 chains_from homes zero w le at = tt
 chains_from homes (suc n) w le at = (record { some = omega arith; rising = (tt, tt); below = (omega (arith, le), tt); home = (at w (omega (arith, le)), tt) }, chains_from homes n (w + 1) (omega (arith, le)) at)
 
-module _ (spec : PageSpec) (l : Loaded) (s : Cells) (p : Page) (roots : List ℕ) (laid : AreLaid spec.slots.items roots s p) (all : length roots ≡ length spec.slots.items) (starts : List Start) (started : AreStarts (map tree_in l.libs.items) spec.slots.items starts) (page : l.crowd.shared.page ≡ p) (places : ArePlaces l.crowd.shared starts l.crowd.places.items) (twenty : length l.crowd.places.items ≡ 20) (stands : HaveRoots roots l.crowd.places.items) (few : length spec.slots.items ≤ 16) where
-  module _ (w : ℕ) (t : SlotSpec) (a : Place) (at : slice_get spec.slots.items w ≡ Some t) (here : slice_get l.crowd.places.items w ≡ Some a) where
-    its_start : (start : Start) × IsStart (map tree_in l.libs.items) t start × IsPlaceWith l.crowd.shared w start.fuel start.scripts a
+module _ (spec : PageSpec) (l : Loaded) (s : Cells) (p : Page) (roots : List ℕ) (laid : AreLaid spec.slots.items roots s p) (all : length roots ≡ length spec.slots.items) (starts : List Start) (started : AreStarts (map tree_in l.libs.items) spec.slots.items starts) (page : l.lives.shared.page ≡ p) (places : ArePlaces l.lives.shared starts l.lives.places.items) (twenty : length l.lives.places.items ≡ 20) (stands : HaveRoots roots l.lives.places.items) (few : length spec.slots.items ≤ 16) where
+  module _ (w : ℕ) (t : SlotSpec) (a : Place) (at : slice_get spec.slots.items w ≡ Some t) (here : slice_get l.lives.places.items w ≡ Some a) where
+    its_start : (start : Start) × IsStart (map tree_in l.libs.items) t start × IsPlaceWith l.lives.shared w start.fuel start.scripts a
     its_start =
         let it = start_at (map tree_in l.libs.items) spec.slots.items starts started w t at in
-        (it.0, it.2, subst (λ o. IsPlaceOf l.crowd.shared w o a) it.1 (places w a here).1)
+        (it.0, it.2, subst (λ o. IsPlaceOf l.lives.shared w o a) it.1 (places w a here).1)
 
     low : w < length roots
     low = omega (arith, within spec.slots.items w t at, all)
 
-    first_in : IsFirstLife l.crowd.shared w t.fuel (content_in (map tree_in l.libs.items) t.content) a
+    first_in : IsFirstLife l.lives.shared w t.fuel (content_in (map tree_in l.libs.items) t.content) a
     first_in =
         let it = its_start in
-        let placed : IsPlaced l.crowd.shared.page w t.content = subst (λ q. IsPlaced q w t.content) (sym page) (laid.placed w t low at) in
-        subst (λ f. IsFirstLife l.crowd.shared w f (content_in (map tree_in l.libs.items) t.content) a) it.1.fuel
-        (first_is (map tree_in l.libs.items) l.crowd.shared w it.0.fuel a t.content it.0.scripts it.1.scripts placed it.2)
+        let placed : IsPlaced l.lives.shared.page w t.content = subst (λ q. IsPlaced q w t.content) (sym page) (laid.placed w t low at) in
+        subst (λ f. IsFirstLife l.lives.shared w f (content_in (map tree_in l.libs.items) t.content) a) it.1.fuel
+        (first_is (map tree_in l.libs.items) l.lives.shared w it.0.fuel a t.content it.0.scripts it.1.scripts placed it.2)
 
     scripts_in : HasScriptsIn (map tree_in l.libs.items) t.content (map tree_in a.codes.items)
-    scripts_in = let it = its_start in scripts_are (map tree_in l.libs.items) l.crowd.shared w it.0.fuel a t.content it.0.scripts it.1.scripts it.2
+    scripts_in = let it = its_start in scripts_are (map tree_in l.libs.items) l.lives.shared w it.0.fuel a t.content it.0.scripts it.1.scripts it.2
 
     -- the node that stands for it
     its_root : slice_get roots w ≡ Some a.root
@@ -213,22 +213,22 @@ module _ (spec : PageSpec) (l : Loaded) (s : Cells) (p : Page) (roots : List ℕ
     its_lot : IsLot p (lot_of t.name (home_of w t.content)) a.root
     its_lot = laid.lots w a.root t its_root at
 
-  refused_away : (w fuel : ℕ) (a : Place) (content : SlotContent) → IsPlaced p w content → IsFirstLife l.crowd.shared w fuel (content_in (map tree_in l.libs.items) content) a → a.life.accepted ≡ false → IsAway p w
+  refused_away : (w fuel : ℕ) (a : Place) (content : SlotContent) → IsPlaced p w content → IsFirstLife l.lives.shared w fuel (content_in (map tree_in l.libs.items) content) a → a.life.accepted ≡ false → IsAway p w
   refused_away w fuel a (slot.Runs tree libs script) placed life none = absurd (no_true (sym none ∙ life.accepted))
   refused_away w fuel a slot.Refused placed life none = placed
 
   -- a number that is no accepted life's has no node
-  nobodys_away : (v : ℕ) → IsNobodys l.crowd.places.items v → v < 32 → IsAway p v
+  nobodys_away : (v : ℕ) → IsNobodys l.lives.places.items v → v < 32 → IsAway p v
   nobodys_away v none lt = by (slice_get spec.slots.items v) refl
     where
       by : (o : Option SlotSpec) → slice_get spec.slots.items v ≡ o → IsAway p v
       by None e = laid.away v (omega (arith, past spec.slots.items v e, all)) lt
       by (Some t) e =
           let low = within spec.slots.items v t e in
-          let a = there l.crowd.places.items v (omega (arith, low, few, twenty)) in
+          let a = there l.lives.places.items v (omega (arith, low, few, twenty)) in
           refused_away v t.fuel a.0 t.content (laid.placed v t (omega (arith, low, all)) e) (first_in v t a.0 e a.1) (none a.0 a.1)
 
-  nobodys_nodes : (v : ℕ) → IsNobodys l.crowd.places.items v → own p v ≡ []
+  nobodys_nodes : (v : ℕ) → IsNobodys l.lives.places.items v → own p v ≡ []
   nobodys_nodes v none = by (leb 32 v) refl
     where
       by : (b : Bool) → leb 32 v ≡ b → own p v ≡ []
@@ -236,37 +236,37 @@ module _ (spec : PageSpec) (l : Loaded) (s : Cells) (p : Page) (roots : List ℕ
       by false g = (nobodys_away v none (leb-false 32 v g)).nodes
 
   -- behind the last slot no life is accepted
-  unborn_behind : (v : ℕ) (a : Place) → length spec.slots.items ≤ v → slice_get l.crowd.places.items v ≡ Some a → (a.life.accepted ≡ false) × (a.root ≡ body)
+  unborn_behind : (v : ℕ) (a : Place) → length spec.slots.items ≤ v → slice_get l.lives.places.items v ≡ Some a → (a.life.accepted ≡ false) × (a.root ≡ body)
   unborn_behind v a le at =
-      let unborn : IsPlaceOf l.crowd.shared v None a = subst (λ o. IsPlaceOf l.crowd.shared v o a) (no_start (map tree_in l.libs.items) spec.slots.items starts started v le) (places v a at).1 in
+      let unborn : IsPlaceOf l.lives.shared v None a = subst (λ o. IsPlaceOf l.lives.shared v o a) (no_start (map tree_in l.libs.items) spec.slots.items starts started v le) (places v a at).1 in
       (unborn.refused, stands v a at ∙ root_past roots v (omega (arith, le, all)))
 
   -- ## What stands in the slots
 
-  root_of_life : (w n fuel : ℕ) (a : Place) (name : List ℕ) (content : SlotContent) → IsLot p (lot_of name (home_of w content)) n → IsFirstLife l.crowd.shared w fuel (content_in (map tree_in l.libs.items) content) a → a.life.accepted ≡ true → root_of p w ≡ Some n
+  root_of_life : (w n fuel : ℕ) (a : Place) (name : List ℕ) (content : SlotContent) → IsLot p (lot_of name (home_of w content)) n → IsFirstLife l.lives.shared w fuel (content_in (map tree_in l.libs.items) content) a → a.life.accepted ≡ true → root_of p w ≡ Some n
   root_of_life w n fuel a name (slot.Runs tree libs script) lot life taken = lot.1
   root_of_life w n fuel a name slot.Refused lot life taken = absurd (no_true (sym life ∙ taken))
 
-  div_of_life : (w n fuel : ℕ) (a : Place) (name : List ℕ) (content : SlotContent) → IsLot p (lot_of name (home_of w content)) n → IsFirstLife l.crowd.shared w fuel (content_in (map tree_in l.libs.items) content) a → a.life.accepted ≡ false → IsLot p (lot_of name None) n
+  div_of_life : (w n fuel : ℕ) (a : Place) (name : List ℕ) (content : SlotContent) → IsLot p (lot_of name (home_of w content)) n → IsFirstLife l.lives.shared w fuel (content_in (map tree_in l.libs.items) content) a → a.life.accepted ≡ false → IsLot p (lot_of name None) n
   div_of_life w n fuel a name (slot.Runs tree libs script) lot life none = absurd (no_true (sym none ∙ life.accepted))
   div_of_life w n fuel a name slot.Refused lot life none = lot
 
-  homes_all : (v : ℕ) → v < 16 → slice_get (homes_list l.crowd.places.items) v ≡ Some v
+  homes_all : (v : ℕ) → v < 16 → slice_get (homes_list l.lives.places.items) v ≡ Some v
   homes_all v lt =
-      let a = there l.crowd.places.items v (omega (arith, lt, twenty)) in
-      slice_get-map (λ (x : Place). x.life.slot) l.crowd.places.items v ∙ ap (option_map (λ (x : Place). x.life.slot)) a.1 ∙ ap Some (places v a.0 a.1).0.slot
+      let a = there l.lives.places.items v (omega (arith, lt, twenty)) in
+      slice_get-map (λ (x : Place). x.life.slot) l.lives.places.items v ∙ ap (option_map (λ (x : Place). x.life.slot)) a.1 ∙ ap Some (places v a.0 a.1).0.slot
 
   module _ (names : map (λ (x : Slot). x.name) l.slots.items ≡ names_of spec.slots.items) (chains : chains_of l.slots.items ≡ singles 0 (length spec.slots.items)) (pieces : List PagePiece) (lays : LaysOut p roots pieces) where
-    spots : spots_of l.crowd l.slots.items ≡ roots
+    spots : spots_of l.lives l.slots.items ≡ roots
     spots =
-        ap (map (λ lives. slice_index_or (roots_of l.crowd.places.items) (present_of lives) body)) (chains ∙ ap (singles 0) (sym all))
-        ∙ spots_of_singles roots l.crowd.places.items stands (omega (arith, all, few, twenty))
+        ap (map (λ lives. slice_index_or (roots_of l.lives.places.items) (present_of lives) body)) (chains ∙ ap (singles 0) (sym all))
+        ∙ spots_of_singles roots l.lives.places.items stands (omega (arith, all, few, twenty))
 
-    all_stand : AreStanding l.crowd l.slots.items
+    all_stand : AreStanding l.lives l.slots.items
     all_stand = record {
       born = 16;
       few = omega (arith, twenty);
-      chains = subst (Chains (homes_list l.crowd.places.items) 16 0) (sym chains) (chains_from (homes_list l.crowd.places.items) (length spec.slots.items) 0 (omega (arith, few)) homes_all);
+      chains = subst (Chains (homes_list l.lives.places.items) 16 0) (sym chains) (chains_from (homes_list l.lives.places.items) (length spec.slots.items) 0 (omega (arith, few)) homes_all);
       roots = λ v a here taken. its_root_is v a here taken (slice_get spec.slots.items v) refl;
       divs = λ v a x here none below its. its_div v a x here none below its (slice_get spec.slots.items v) refl;
       nodes = λ v a here its. its_node v a here (let low = single_listed 0 (length spec.slots.items) v (ap (λ cs. has_one v cs) (sym chains) ∙ its) in omega (arith, low));
@@ -275,24 +275,24 @@ module _ (spec : PageSpec) (l : Loaded) (s : Cells) (p : Page) (roots : List ℕ
           let it = single_at 0 (length spec.slots.items) w v (ap (λ cs. slice_get (map present_of cs) w) (sym chains) ∙ first) in
           laid.stand v a.root (root_there roots a.root v (stands v a here) (omega (arith, it.0, it.1, all))));
       spare = λ v a here below absent. absurd (below (stands v a here ∙ root_past roots v (behind v absent (leb (length roots) v) refl)));
-      spots = subst (AreSpots l.crowd.shared.page) (sym spots) (subst (λ q. AreSpots q roots) (sym page) (spots_are p roots pieces lays));
+      spots = subst (AreSpots l.lives.shared.page) (sym spots) (subst (λ q. AreSpots q roots) (sym page) (spots_are p roots pieces lays));
     }
       where
-        its_root_is : (v : ℕ) (a : Place) → slice_get l.crowd.places.items v ≡ Some a → a.life.accepted ≡ true → (o : Option SlotSpec) → slice_get spec.slots.items v ≡ o → root_of l.crowd.shared.page v ≡ Some a.root
+        its_root_is : (v : ℕ) (a : Place) → slice_get l.lives.places.items v ≡ Some a → a.life.accepted ≡ true → (o : Option SlotSpec) → slice_get spec.slots.items v ≡ o → root_of l.lives.shared.page v ≡ Some a.root
         its_root_is v a here taken None e = absurd (no_true (sym (unborn_behind v a (past spec.slots.items v e) here).0 ∙ taken))
         its_root_is v a here taken (Some t) e = ap (λ q. root_of q v) page ∙ root_of_life v a.root t.fuel a t.name t.content (its_lot v t a e here) (first_in v t a e here) taken
 
-        its_div : (v : ℕ) (a : Place) (x : Slot) → slice_get l.crowd.places.items v ≡ Some a → a.life.accepted ≡ false → a.root ≢ body → slice_get l.slots.items a.life.slot ≡ Some x → (o : Option SlotSpec) → slice_get spec.slots.items v ≡ o → IsLot l.crowd.shared.page (lot_of x.name None) a.root
+        its_div : (v : ℕ) (a : Place) (x : Slot) → slice_get l.lives.places.items v ≡ Some a → a.life.accepted ≡ false → a.root ≢ body → slice_get l.slots.items a.life.slot ≡ Some x → (o : Option SlotSpec) → slice_get spec.slots.items v ≡ o → IsLot l.lives.shared.page (lot_of x.name None) a.root
         its_div v a x here none below its None e = absurd (below (unborn_behind v a (past spec.slots.items v e) here).1)
         its_div v a x here none below its (Some t) e =
             let name : x.name ≡ t.name = names_at l.slots.items spec.slots.items v x t names (ap (slice_get l.slots.items) (sym (places v a here).0.slot) ∙ its) e in
             subst (λ q. IsLot q (lot_of x.name None) a.root) (sym page)
             (subst (λ n. IsLot p (lot_of n None) a.root) (sym name) (div_of_life v a.root t.fuel a t.name t.content (its_lot v t a e here) (first_in v t a e here) none))
 
-        its_node : (v : ℕ) (a : Place) → slice_get l.crowd.places.items v ≡ Some a → v < length spec.slots.items → a.root ≢ body
+        its_node : (v : ℕ) (a : Place) → slice_get l.lives.places.items v ≡ Some a → v < length spec.slots.items → a.root ≢ body
         its_node v a here lt = not_body p a.root (laid.stand v a.root (root_there roots a.root v (stands v a here) (omega (arith, lt, all))))
 
-        its_own : (v u : ℕ) (a b : Place) → slice_get l.crowd.places.items v ≡ Some a → slice_get l.crowd.places.items u ≡ Some b → a.root ≢ body → a.root ≡ b.root → (x : Bool) → leb (length roots) v ≡ x → (y : Bool) → leb (length roots) u ≡ y → v ≡ u
+        its_own : (v u : ℕ) (a b : Place) → slice_get l.lives.places.items v ≡ Some a → slice_get l.lives.places.items u ≡ Some b → a.root ≢ body → a.root ≡ b.root → (x : Bool) → leb (length roots) v ≡ x → (y : Bool) → leb (length roots) u ≡ y → v ≡ u
         its_own v u a b here other below same true e y f = absurd (below (stands v a here ∙ root_past roots v (leb-true (length roots) v e)))
         its_own v u a b here other below same false e true f = absurd (below (same ∙ stands u b other ∙ root_past roots u (leb-true (length roots) u f)))
         its_own v u a b here other below same false e false f = spots_differ p roots (spots_are p roots pieces lays) v u (leb-false (length roots) v e) (leb-false (length roots) u f) (sym (stands v a here) ∙ same ∙ stands u b other)
@@ -305,8 +305,8 @@ module _ (spec : PageSpec) (l : Loaded) (s : Cells) (p : Page) (roots : List ℕ
             absurd (no_true (sym absent ∙ ap (is_present v) chains ∙ present))
 
   pub page_loads : map (λ (x : Slot). x.name) l.slots.items ≡ names_of spec.slots.items → map (λ (x : Slot). x.fuel) l.slots.items ≡ fuels_of spec.slots.items → HaveFewFuel l.slots.items → chains_of l.slots.items ≡ singles 0 (length spec.slots.items)
-      → map tree_in l.libs.items ≡ map tree_of spec.libs.items → l.channels.items ≡ spec.channels.items → l.crowd.shared.codes.items ≡ [] → l.crowd.journal.items ≡ []
-      → ((v : ℕ) → IsNobodys l.crowd.places.items v → IsBare v l.crowd.shared.store) → HaveRaws l.crowd.shared.store l.crowd.shared.page → LaysOut p roots (map piece_of spec.pieces.items) → LoadsPage spec l
+      → map tree_in l.libs.items ≡ map tree_of spec.libs.items → l.channels.items ≡ spec.channels.items → l.lives.shared.codes.items ≡ [] → l.lives.journal.items ≡ []
+      → ((v : ℕ) → IsNobodys l.lives.places.items v → IsBare v l.lives.shared.store) → HaveRaws l.lives.shared.store l.lives.shared.page → LaysOut p roots (map piece_of spec.pieces.items) → LoadsPage spec l
   page_loads names fuels fuel chains libs channels unshared journal free raws lays = record {
     few = few;
     names = names;
@@ -318,13 +318,13 @@ module _ (spec : PageSpec) (l : Loaded) (s : Cells) (p : Page) (roots : List ℕ
     twenty = twenty;
     homes = λ v a at. (places v a at).0.slot;
     told = λ v a at. (places v a at).0.told;
-    slots = λ w t a at here. subst (λ c. IsFirstLife l.crowd.shared w t.fuel c a) (ap (λ ts. content_in ts t.content) libs) (first_in w t a at here);
+    slots = λ w t a at here. subst (λ c. IsFirstLife l.lives.shared w t.fuel c a) (ap (λ ts. content_in ts t.content) libs) (first_in w t a at here);
     scripts = λ w t a at here. subst (λ ts. HasScriptsIn ts t.content (map tree_in a.codes.items)) libs (scripts_in w t a at here);
     unshared = unshared;
     journal = journal;
     raws = raws;
     standing = all_stand names chains (map piece_of spec.pieces.items) lays;
-    laid = subst (λ xs. IsLaidBy l.crowd.shared.page xs (map piece_of spec.pieces.items)) (sym (spots names chains (map piece_of spec.pieces.items) lays)) (subst (λ q. IsLaidBy q roots (map piece_of spec.pieces.items)) (sym page) (laid_by p roots (map piece_of spec.pieces.items) lays));
+    laid = subst (λ xs. IsLaidBy l.lives.shared.page xs (map piece_of spec.pieces.items)) (sym (spots names chains (map piece_of spec.pieces.items) lays)) (subst (λ q. IsLaidBy q roots (map piece_of spec.pieces.items)) (sym page) (laid_by p roots (map piece_of spec.pieces.items) lays));
     places = subst (λ n. HavePlaces n (map piece_of spec.pieces.items)) all lays.places;
     others = λ v none. record {
       cells = (free v none).cells;

@@ -21,7 +21,7 @@ use Rattle.turn_returns.specs.declared.turn.Widget.{Widget}
 use Rattle.life_queue.specs.declared.life.Life.{Life}
 use Rattle.life_queue.specs.Lives.{life_seen}
 use Rattle.life_queue.specs.Fine.{FineLife, tally}
-use Rattle.slot_picks.specs.declared.crowd.Place.{Place}
+use Rattle.slot_picks.specs.declared.lives.Place.{Place}
 use Rattle.slot_picks.specs.Places.{lent}
 use Rattle.page_build.specs.Homes.{HaveRaws}
 use Rattle.page_load.specs.declared.codes.Scripts.{Scripts}

@@ -14,10 +14,10 @@ use Rattle.life_laws.specs.Life.{due, image}
 use Rattle.turn_returns.specs.declared.turn.Shared.{Shared}
 use Rattle.life_queue.specs.Lives.{life_seen}
 use Rattle.life_queue.specs.Fine.{FineLife, most_fuel, tally}
-use Rattle.slot_picks.specs.declared.crowd.Place.{Place}
+use Rattle.slot_picks.specs.declared.lives.Place.{Place}
 use Rattle.slot_picks.specs.declared.slots.Slot.{Slot}
 use Rattle.slot_picks.specs.Places.{lent}
-use Rattle.slot_picks.specs.Crowds.{AreStanding, chains_of, spots_of}
+use Rattle.slot_picks.specs.Lives.{AreStanding, chains_of, spots_of}
 use Rattle.page_plan.specs.declared.PageSpec.{PageSpec}
 use Rattle.page_plan.specs.declared.SlotContent.{SlotContent}
 use Rattle.page_plan.specs.declared.SlotSpec.{SlotSpec}
@@ -72,18 +72,18 @@ pub record LoadsPage (spec : PageSpec) (l : Loaded) : Type 0 where
   pub chains : chains_of l.slots.items ≡ singles 0 (length spec.slots.items)
   pub libs : map tree_in l.libs.items ≡ map tree_of spec.libs.items
   pub channels : l.channels.items ≡ spec.channels.items
-  pub twenty : length l.crowd.places.items ≡ 20
-  pub homes : (v : ℕ) (a : Place) → slice_get l.crowd.places.items v ≡ Some a → a.life.slot ≡ v
-  pub told : (v : ℕ) (a : Place) → slice_get l.crowd.places.items v ≡ Some a → a.told ≡ 0
-  pub slots : (w : ℕ) (s : SlotSpec) (a : Place) → slice_get spec.slots.items w ≡ Some s → slice_get l.crowd.places.items w ≡ Some a
-      → IsFirstLife l.crowd.shared w s.fuel (content_of spec.libs.items s.content) a
-  pub scripts : (w : ℕ) (s : SlotSpec) (a : Place) → slice_get spec.slots.items w ≡ Some s → slice_get l.crowd.places.items w ≡ Some a
+  pub twenty : length l.lives.places.items ≡ 20
+  pub homes : (v : ℕ) (a : Place) → slice_get l.lives.places.items v ≡ Some a → a.life.slot ≡ v
+  pub told : (v : ℕ) (a : Place) → slice_get l.lives.places.items v ≡ Some a → a.told ≡ 0
+  pub slots : (w : ℕ) (s : SlotSpec) (a : Place) → slice_get spec.slots.items w ≡ Some s → slice_get l.lives.places.items w ≡ Some a
+      → IsFirstLife l.lives.shared w s.fuel (content_of spec.libs.items s.content) a
+  pub scripts : (w : ℕ) (s : SlotSpec) (a : Place) → slice_get spec.slots.items w ≡ Some s → slice_get l.lives.places.items w ≡ Some a
       → HasScripts spec.libs.items s.content (map tree_in a.codes.items)
-  pub unshared : l.crowd.shared.codes.items ≡ []
-  pub journal : l.crowd.journal.items ≡ []
-  pub raws : HaveRaws l.crowd.shared.store l.crowd.shared.page
-  pub standing : AreStanding l.crowd l.slots.items
-  pub laid : IsLaidBy l.crowd.shared.page (spots_of l.crowd l.slots.items) (map piece_of spec.pieces.items)
+  pub unshared : l.lives.shared.codes.items ≡ []
+  pub journal : l.lives.journal.items ≡ []
+  pub raws : HaveRaws l.lives.shared.store l.lives.shared.page
+  pub standing : AreStanding l.lives l.slots.items
+  pub laid : IsLaidBy l.lives.shared.page (spots_of l.lives l.slots.items) (map piece_of spec.pieces.items)
   pub places : HavePlaces (length spec.slots.items) (map piece_of spec.pieces.items)
-  pub others : (v : ℕ) → IsNobodys l.crowd.places.items v → HasNothing v l.crowd.shared.store l.crowd.shared.page
-  pub rest : (v : ℕ) (a : Place) → length spec.slots.items ≤ v → slice_get l.crowd.places.items v ≡ Some a → (a.life.accepted ≡ false) × (a.root ≡ body)
+  pub others : (v : ℕ) → IsNobodys l.lives.places.items v → HasNothing v l.lives.shared.store l.lives.shared.page
+  pub rest : (v : ℕ) (a : Place) → length spec.slots.items ≤ v → slice_get l.lives.places.items v ≡ Some a → (a.life.accepted ≡ false) × (a.root ≡ body)

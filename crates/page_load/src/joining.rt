@@ -4,7 +4,7 @@ ghost use Rattle.js_names.specs.Code.{tree_in};
 ghost use Rattle.plain_tree.specs.Plains.{unplaced};
 ghost use Rattle.page_build.specs.Homes.{HaveRaws};
 ghost use Rattle.life_queue.specs.Fine.{most_fuel};
-ghost use Rattle.slot_picks.specs.Crowds.{FineCrowd};
+ghost use Rattle.slot_picks.specs.Lives.{FineLives};
 ghost use Rattle.page_load.specs.declared.codes.Scripts.{Scripts as ScriptsOf};
 ghost use Rattle.page_load.specs.Joining.{Comes, HasSeat, IsFree, KeepsRest};
 ghost use Rattle.page_load.specs.Lives.{IsReady};
@@ -18,7 +18,7 @@ use keyed_names::Keys;
 use page_build::{add_spare_div, add_spare_root};
 use page_plan::SlotContent;
 use plain_tree::Plain;
-use slot_picks::{Crowd, Place, Slot};
+use slot_picks::{Lives, Place, Slot};
 use std::alloc::Global;
 
 /// A life that comes: the slot that it is of, its number, and what its file gives.
@@ -32,36 +32,36 @@ pub struct Coming {
 // A life that is ready comes into its place, with this tree.
 fn add_accepted(
     alloc: Global,
-    crowd: &mut Crowd,
+    lives: &mut Lives,
     v: u32,
     place: Place,
     body: &Plain,
 ) -> Result<(), Memory>
     requires number { v < 20 }
-    requires free { IsFree v crowd.old }
-    requires fine { FineCrowd crowd.old }
-    requires raws { HaveRaws crowd.old.shared.store crowd.old.shared.page }
+    requires free { IsFree v lives.old }
+    requires fine { FineLives lives.old }
+    requires raws { HaveRaws lives.old.shared.store lives.old.shared.page }
     requires ready { (fuel : ℕ) × (s : ScriptsOf) × (fuel ≤ most_fuel) × IsReady v fuel s place }
-    ensures comes { OnOk result (SeatsLife v (unplaced body.now) place crowd.old crowd.new) }
-    ensures seat { OnErr result (HasSeat v crowd.old crowd.new) }
-    ensures keeps { KeepsRest v crowd.old crowd.new }
+    ensures comes { OnOk result (SeatsLife v (unplaced body.now) place lives.old lives.new) }
+    ensures seat { OnErr result (HasSeat v lives.old lives.new) }
+    ensures keeps { KeepsRest v lives.old lives.new }
 {
     let mut place = place;
     place.root = add_spare_root(
         alloc,
-        &mut crowd.shared.store,
-        &mut crowd.shared.page,
+        &mut lives.shared.store,
+        &mut lives.shared.page,
         v,
         body,
     )?;
-    match make_lib(alloc, &mut crowd.shared.store, v) {
+    match make_lib(alloc, &mut lives.shared.store, v) {
         Ok(lib) => {
             place.life.lib = lib;
-            crowd.places[v as usize] = place;
+            lives.places[v as usize] = place;
             Ok(())
         }
         Err(fault) => {
-            crowd.places[v as usize] = place;
+            lives.places[v as usize] = place;
             Err(fault)
         }
     }
@@ -71,28 +71,28 @@ fn add_accepted(
 fn add_refused(
     alloc: Global,
     keys: Keys,
-    crowd: &mut Crowd,
+    lives: &mut Lives,
     slot: &Slot,
     to: u32,
     v: u32,
 ) -> Result<(), Memory>
     requires number { v < 20 }
-    requires free { IsFree v crowd.old }
-    requires fine { FineCrowd crowd.old }
-    requires raws { HaveRaws crowd.old.shared.store crowd.old.shared.page }
-    ensures comes { OnOk result (SeatsDiv v to slot.now.name crowd.old crowd.new) }
-    ensures seat { OnErr result (HasSeat v crowd.old crowd.new) }
-    ensures keeps { KeepsRest v crowd.old crowd.new }
+    requires free { IsFree v lives.old }
+    requires fine { FineLives lives.old }
+    requires raws { HaveRaws lives.old.shared.store lives.old.shared.page }
+    ensures comes { OnOk result (SeatsDiv v to slot.now.name lives.old lives.new) }
+    ensures seat { OnErr result (HasSeat v lives.old lives.new) }
+    ensures keeps { KeepsRest v lives.old lives.new }
 {
     let mut place = no_place(alloc, keys, v)?;
     place.life.slot = to;
     place.root = add_spare_div(
         alloc,
-        &mut crowd.shared.store,
-        &mut crowd.shared.page,
+        &mut lives.shared.store,
+        &mut lives.shared.page,
         &slot.name,
     )?;
-    crowd.places[v as usize] = place;
+    lives.places[v as usize] = place;
     Ok(())
 }
 
@@ -104,19 +104,19 @@ fn add_refused(
 pub fn add_life(
     alloc: Global,
     keys: Keys,
-    crowd: &mut Crowd,
+    lives: &mut Lives,
     libs: &[Code],
     slot: &Slot,
     coming: Coming,
 ) -> Result<(), Memory>
     requires number { coming.v < 20 }
-    requires free { IsFree coming.v crowd.old }
+    requires free { IsFree coming.v lives.old }
     requires fuel { slot.now.fuel ≤ most_fuel }
-    requires fine { FineCrowd crowd.old }
-    requires raws { HaveRaws crowd.old.shared.store crowd.old.shared.page }
-    ensures comes { OnOk result (Comes (map tree_in libs.now) slot.now coming crowd.old crowd.new) }
-    ensures seat { OnErr result (HasSeat coming.v crowd.old crowd.new) }
-    ensures keeps { KeepsRest coming.v crowd.old crowd.new }
+    requires fine { FineLives lives.old }
+    requires raws { HaveRaws lives.old.shared.store lives.old.shared.page }
+    ensures comes { OnOk result (Comes (map tree_in libs.now) slot.now coming lives.old lives.new) }
+    ensures seat { OnErr result (HasSeat coming.v lives.old lives.new) }
+    ensures keeps { KeepsRest coming.v lives.old lives.new }
 {
     let Coming { to, v, content } = coming;
     match content {
@@ -128,8 +128,8 @@ pub fn add_life(
             let scripts = scripts_with(alloc, libs, &places, script)?;
             let mut place = waiting_place(alloc, keys, v, slot.fuel, scripts)?;
             place.life.slot = to;
-            add_accepted(alloc, crowd, v, place, &body)
+            add_accepted(alloc, lives, v, place, &body)
         }
-        SlotContent::Refused => add_refused(alloc, keys, crowd, slot, to, v),
+        SlotContent::Refused => add_refused(alloc, keys, lives, slot, to, v),
     }
 }

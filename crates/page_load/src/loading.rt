@@ -2,7 +2,7 @@
 ghost use Rattle.std.specs.Prelude.{◌≡◌, ◌≤◌, ◌∷◌, [], IfOk, length, map};
 ghost use Rattle.slot_picks.specs.declared.slots.Slot.{Slot as SlotOf};
 ghost use Rattle.life_queue.specs.Fine.{most_fuel};
-ghost use Rattle.slot_picks.specs.Crowds.{chains_of};
+ghost use Rattle.slot_picks.specs.Lives.{chains_of};
 ghost use Rattle.page_load.specs.Homes.{fuels_of, names_of};
 ghost use Rattle.page_load.specs.Loads.{HaveFewFuel, LoadsPage, singles};
 
@@ -13,7 +13,7 @@ use code_units::Memory;
 use js_names::Code;
 use keyed_names::Keys;
 use page_plan::{PageSpec, SlotSpec};
-use slot_picks::{Crowd, Slot};
+use slot_picks::{Lives, Slot};
 use std::alloc::Global;
 use std::collections::VecDeque;
 use turn_returns::Shared;
@@ -24,7 +24,7 @@ pub struct Loaded {
     /// The store and the page, and twenty places, each with the life whose number it is: the first life of each slot in
     /// order, with the trees of its own scripts, and behind them the rest, which are not accepted. No trees are
     /// shared, and no pick was made.
-    pub crowd: Crowd,
+    pub lives: Lives,
     /// The slots in order, each with its first life.
     pub slots: Vec<Slot>,
     /// The trees of the libraries, for the scripts of lives that come later.
@@ -89,7 +89,7 @@ pub fn load_page(alloc: Global, keys: Keys, spec: PageSpec) -> Result<Loaded, Me
     };
     let places = places_of(alloc, keys, &mut shared, &roots, starts)?;
     Ok(Loaded {
-        crowd: Crowd {
+        lives: Lives {
             shared,
             places,
             journal: VecDeque::new(alloc),

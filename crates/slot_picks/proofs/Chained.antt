@@ -4,7 +4,7 @@ use Rattle.std.specs.Prelude.{slice_get, slice_set}
 use Rattle.slot_laws.specs.Chains.{Chains, IsChain}
 use Rattle.slot_laws.proofs.Housing.{chain_in}
 use Rattle.slot_picks.specs.declared.slots.Slot.{Slot}
-use Rattle.slot_picks.specs.Crowds.{chains_of}
+use Rattle.slot_picks.specs.Lives.{chains_of}
 
 pub chains_length : (ss : List Slot) → length (chains_of ss) ≡ length ss
 chains_length [] = refl

@@ -5,9 +5,9 @@ use Rattle.pick_laws.specs.declared.entry.Picked.{Picked}
 use Rattle.slot_laws.specs.Chains.{Chains, PickedIn, last_from, last_life}
 use Rattle.slot_laws.proofs.Chaining.{rest_after}
 use Rattle.slot_laws.proofs.Housing.{chains_picked, unspent_picked}
-use Rattle.slot_picks.specs.declared.crowd.Crowd.{Crowd}
+use Rattle.slot_picks.specs.declared.lives.Lives.{Lives}
 use Rattle.slot_picks.specs.declared.slots.Slot.{Slot}
-use Rattle.slot_picks.specs.Crowds.{AreHoused, FineCrowd, chains_of, seens_of}
+use Rattle.slot_picks.specs.Lives.{AreHoused, FineLives, chains_of, seens_of}
 use Rattle.slot_picks.specs.Places.{homes_of}
 use Rattle.slot_picks.proofs.Chained.{chains_length}
 
@@ -33,13 +33,13 @@ lasts_set (c ∷ cs) (suc w) lives left at e = ap (λ vs. last_life c ∷ vs) (l
 
 -- ## A pick
 
-module _ (w k : ℕ) (r : Picked) (c d : Crowd) (ss ts : List Slot) (p : PickedIn w k r (chains_of ss) (chains_of ts) (seens_of c) (seens_of d) c.journal.items d.journal.items) where
+module _ (w k : ℕ) (r : Picked) (c d : Lives) (ss ts : List Slot) (p : PickedIn w k r (chains_of ss) (chains_of ts) (seens_of c) (seens_of d) c.journal.items d.journal.items) where
   slots_picked : length ts ≡ length ss
   slots_picked = sym (chains_length ts) ∙ (ap length p.set ∙ (set_length (chains_of ss) w p.left ∙ chains_length ss))
 
-  pub housed_picked : (born : ℕ) → FineCrowd d → homes_of d.places.items ≡ homes_of c.places.items → AreHoused born c ss → AreHoused born d ts
+  pub housed_picked : (born : ℕ) → FineLives d → homes_of d.places.items ≡ homes_of c.places.items → AreHoused born c ss → AreHoused born d ts
   housed_picked born fine homes h = record {
-    crowd = fine;
+    lives = fine;
     slots = omega (arith, slots_picked, h.slots);
     few = h.few;
     chains = subst (λ hs. Chains hs born 0 (chains_of ts)) (sym homes) (chains_picked (homes_of c.places.items) born w k r (chains_of ss) (chains_of ts) (seens_of c) (seens_of d) c.journal.items d.journal.items h.chains p);

@@ -11,9 +11,9 @@ use Rattle.js_names.specs.Code.{trees_of}
 use Rattle.turn_returns.specs.declared.turn.Shared.{Shared}
 use Rattle.life_queue.specs.declared.life.Life.{Life}
 use Rattle.life_queue.specs.Fine.{FineTurn, KeepsLife}
-use Rattle.slot_picks.specs.declared.crowd.Crowd.{Crowd}
-use Rattle.slot_picks.specs.declared.crowd.Place.{Place}
-use Rattle.slot_picks.specs.Crowds.{KeepsCrowd, KeepsLives, PageStays}
+use Rattle.slot_picks.specs.declared.lives.Lives.{Lives}
+use Rattle.slot_picks.specs.declared.lives.Place.{Place}
+use Rattle.slot_picks.specs.Lives.{KeepsLivesAndPage, KeepsLives, PageStays}
 use Rattle.slot_picks.specs.Places.{OwnPlaces, accepts_of, codes_of, homes_of, is_accepted, lent, roots_of, told_of}
 use Rattle.slot_picks.proofs.Owning.{own_here, owns_set}
 
@@ -66,10 +66,10 @@ page_here p = record { host = host_same p p refl; owners = λ v n h. h; numbers 
 page_kept : (w : ℕ) (h m : Shared) (a b : Life) → KeepsLife w h m a b → PageStays h.page m.page
 page_kept w h m a b k = record { host = k.host; owners = k.page.owners; numbers = k.page.numbers; roots = k.page.roots }
 
-pub lives_here : (c : Crowd) → KeepsLives c c
+pub lives_here : (c : Lives) → KeepsLives c c
 lives_here c = record { homes = refl; roots = refl; told = refl; accepts = refl; codes = refl; holds = λ h. h; rest = refl; raws = λ n h. h; cells = λ v e. refl; nodes = λ v e. refl }
 
-pub lives_then : (c d e : Crowd) → KeepsLives c d → KeepsLives d e → KeepsLives c e
+pub lives_then : (c d e : Lives) → KeepsLives c d → KeepsLives d e → KeepsLives c e
 lives_then c d e f g = record {
   homes = g.homes ∙ f.homes;
   roots = g.roots ∙ f.roots;
@@ -83,18 +83,18 @@ lives_then c d e f g = record {
   nodes = λ v none. g.nodes v (ap (λ fs. slice_index_or fs v false) f.accepts ∙ none) ∙ f.nodes v none;
 }
 
-pub keeps_here : (c : Crowd) → KeepsCrowd c c
+pub keeps_here : (c : Lives) → KeepsLivesAndPage c c
 keeps_here c = record { lives = lives_here c; page = page_here c.shared.page }
 
 -- one accepted life is another after a pick of it
-module _ (c d : Crowd) (v : ℕ) (a b : Place) (at : slice_get c.places.items v ≡ Some a) (set : d.places.items ≡ slice_set c.places.items v b) (few : length c.places.items ≤ 32) (accepted : a.life.accepted ≡ true) (root : b.root ≡ a.root) (told : b.told ≡ a.told) (k : KeepsLife v (lent c.shared a) (lent d.shared b) a.life b.life) (rest : d.shared.codes ≡ c.shared.codes) (turn : IfSome b.life.turn (FineTurn (trees_of b.codes.items) v d.shared.store d.shared.page b.life.grant)) where
+module _ (c d : Lives) (v : ℕ) (a b : Place) (at : slice_get c.places.items v ≡ Some a) (set : d.places.items ≡ slice_set c.places.items v b) (few : length c.places.items ≤ 32) (accepted : a.life.accepted ≡ true) (root : b.root ≡ a.root) (told : b.told ≡ a.told) (k : KeepsLife v (lent c.shared a) (lent d.shared b) a.life b.life) (rest : d.shared.codes ≡ c.shared.codes) (turn : IfSome b.life.turn (FineTurn (trees_of b.codes.items) v d.shared.store d.shared.page b.life.grant)) where
   another : (x : ℕ) → is_accepted c.places.items x ≡ false → v ≡ x → ⊥
   another x none e = no_true (sym accepted ∙ sym (accepted_at v c.places.items a at) ∙ ap (is_accepted c.places.items) e ∙ none)
 
   set_holds : OwnPlaces c.shared 0 c.places.items → OwnPlaces d.shared 0 (slice_set c.places.items v b)
   set_holds = owns_set v a.codes.items c.shared d.shared k.cells k.page a b (own_here v c.shared d.shared a b k turn) 0 v c.places.items (omega arith) at (omega (arith, few))
 
-  pub keeps_set : KeepsCrowd c d
+  pub keeps_set : KeepsLivesAndPage c d
   keeps_set = record {
     lives = record {
       homes = ap homes_of set ∙ homes_set v c.places.items a b at k.slot;
@@ -112,7 +112,7 @@ module _ (c d : Crowd) (v : ℕ) (a b : Place) (at : slice_get c.places.items v 
   }
 
 -- the same with another journal
-pub keeps_journal : (c d e : Crowd) → e.shared ≡ d.shared → e.places.items ≡ d.places.items → KeepsCrowd c d → KeepsCrowd c e
+pub keeps_journal : (c d e : Lives) → e.shared ≡ d.shared → e.places.items ≡ d.places.items → KeepsLivesAndPage c d → KeepsLivesAndPage c e
 keeps_journal c d e same places k = record {
   lives = record {
     homes = ap homes_of places ∙ k.lives.homes;

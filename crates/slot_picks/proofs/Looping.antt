@@ -11,9 +11,9 @@ use Rattle.slot_laws.specs.Slots.{Each, has, Passed, PickedSlot, Rising}
 use Rattle.slot_laws.proofs.Housing.{chain_in}
 use Rattle.slot_laws.proofs.Chaining.{out_of}
 use Rattle.slot_laws.proofs.Passing.{each_mid, has_append, passed_on, slot_picked}
-use Rattle.slot_picks.specs.declared.crowd.Crowd.{Crowd}
+use Rattle.slot_picks.specs.declared.lives.Lives.{Lives}
 use Rattle.slot_picks.specs.declared.slots.Slot.{Slot}
-use Rattle.slot_picks.specs.Crowds.{KeepsBeside, chains_of, seens_of}
+use Rattle.slot_picks.specs.Lives.{KeepsBeside, chains_of, seens_of}
 use Rattle.slot_picks.proofs.Chained.{chains_length}
 
 pub present_is : (ds cur : List ℕ) (v : ℕ) → ds ≡ cur → slice_get ds 0 ≡ Some v → cur ≡ v ∷ drop 1 cur
@@ -133,7 +133,7 @@ not_it v u e same =
     cc
 
 -- lives of the slot were ended, and then its present one was picked
-pub beside_slot : (w v : ℕ) (c d e : Crowd) (ss ts : List Slot) (js : List PickEntry) → Passed (lives_at w ss) (seens_of c) (seens_of d) js (lives_at w ts) → chains_of ts ≡ slice_set (chains_of ss) w (lives_at w ts)
+pub beside_slot : (w v : ℕ) (c d e : Lives) (ss ts : List Slot) (js : List PickEntry) → Passed (lives_at w ss) (seens_of c) (seens_of d) js (lives_at w ts) → chains_of ts ≡ slice_set (chains_of ss) w (lives_at w ts)
     → lives_at w ts ≡ v ∷ drop 1 (lives_at w ts) → ((u : ℕ) → u ≢ v → slice_get (seens_of e) u ≡ slice_get (seens_of d) u) → KeepsBeside w c e ss ts
 beside_slot w v c d e ss ts js passed set here others = record {
   slots = λ u ne. ap (λ cs. slice_get cs u) set ∙ chain_other (chains_of ss) w u (lives_at w ts) (λ e. ne (sym e));
@@ -145,5 +145,5 @@ beside_slot w v c d e ss ts js passed set here others = record {
 }
 
 -- nothing was done
-pub beside_here : (w : ℕ) (c : Crowd) (ss : List Slot) → KeepsBeside w c c ss ss
+pub beside_here : (w : ℕ) (c : Lives) (ss : List Slot) → KeepsBeside w c c ss ss
 beside_here w c ss = record { slots = λ u ne. refl; own = record { ended = []; are = refl }; lives = λ v out. refl }

@@ -10,7 +10,7 @@ use Rattle.js_names.specs.Code.{trees_of}
 use Rattle.turn_returns.specs.declared.turn.Shared.{Shared}
 use Rattle.life_queue.specs.Fine.{FineTurn, KeepsCells, KeepsLife}
 use Rattle.life_queue.proofs.Apart.{holds_apart, turn_apart}
-use Rattle.slot_picks.specs.declared.crowd.Place.{Place}
+use Rattle.slot_picks.specs.declared.lives.Place.{Place}
 use Rattle.slot_picks.specs.Places.{FinePlaces, OwnPlace, OwnPlaces, lent}
 use Rattle.slot_picks.proofs.Others.{IsOff, off_behind, off_here, off_next}
 

@@ -15,7 +15,7 @@ use Rattle.life_queue.specs.Lives.{life_seen, trees_in}
 use Rattle.life_queue.specs.Fine.{FineLife, FineTurn, KeepsLife, tally}
 use Rattle.life_picks.specs.Picking.{PicksLife}
 use Rattle.slot_laws.proofs.Passing.{get_other}
-use Rattle.slot_picks.specs.declared.crowd.Place.{Place}
+use Rattle.slot_picks.specs.declared.lives.Place.{Place}
 use Rattle.slot_picks.specs.Places.{FewPlaces, FinePlaces, lent, seen_at, seens_from}
 use Rattle.slot_picks.proofs.Others.{few_at, fews_set, fines_at, fines_set, seen_life, seens_at, seens_set}
 

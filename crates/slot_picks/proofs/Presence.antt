@@ -5,7 +5,7 @@ use Rattle.slot_laws.specs.Chains.{Chains, IsChain, listed}
 use Rattle.slot_laws.specs.Slots.{IsTail, has}
 use Rattle.slot_laws.proofs.Chaining.{chain_set, chain_tail}
 use Rattle.slot_laws.proofs.Housing.{chain_in}
-use Rattle.slot_picks.specs.Crowds.{is_present, present_of}
+use Rattle.slot_picks.specs.Lives.{is_present, present_of}
 
 no_true : false ≡ true → ⊥
 no_true e = cc

@@ -13,9 +13,9 @@ use Rattle.slot_laws.specs.Slots.{Each, ready_of, slot_ready}
 use Rattle.slot_laws.specs.Settled.{flag, slot_flags}
 use Rattle.slot_laws.proofs.Passing.{append_cons}
 use Rattle.slot_laws.proofs.Settling.{flags_length, ready_flag, set_is, was_at, was_ready}
-use Rattle.slot_picks.specs.declared.crowd.Crowd.{Crowd}
+use Rattle.slot_picks.specs.declared.lives.Lives.{Lives}
 use Rattle.slot_picks.specs.declared.slots.Slot.{Slot}
-use Rattle.slot_picks.specs.Crowds.{chains_of, seens_of}
+use Rattle.slot_picks.specs.Lives.{chains_of, seens_of}
 use Rattle.slot_picks.proofs.Chained.{chains_length}
 
 drop_slot : (ls : List Slot) (i j : ℕ) (l : Slot) → slice_get ls i ≡ Some l → j ≡ suc i → drop i ls ≡ l ∷ drop j ls
@@ -71,7 +71,7 @@ pub slots_below : (ss : List Seen) (sl : List Slot) (xs : List ℕ) → xs ≡ r
 slots_below ss sl xs e few k d h = let g = slot_there ss sl xs k (get_or xs k d) e (get_read xs k d h) in omega (arith, g, few)
 
 -- the slots that were found ready, as a list of these slots
-pub listed : (c : Crowd) (xs : List ℕ) (ss ts : List Slot) → ts ≡ ss → xs ≡ ready_from 0 (slot_flags (seens_of c) (chains_of ts)) → xs ≡ ready_from 0 (slot_flags (seens_of c) (chains_of ss))
+pub listed : (c : Lives) (xs : List ℕ) (ss ts : List Slot) → ts ≡ ss → xs ≡ ready_from 0 (slot_flags (seens_of c) (chains_of ts)) → xs ≡ ready_from 0 (slot_flags (seens_of c) (chains_of ss))
 listed c xs ss ts e f = f ∙ ap (λ us. ready_from 0 (slot_flags (seens_of c) (chains_of us))) e
 
 -- ## After a pick that left its turn unfinished, the same slots are ready

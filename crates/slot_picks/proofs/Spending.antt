@@ -12,7 +12,7 @@ use Rattle.turn_returns.specs.declared.turn.Turn.{Turn}
 use Rattle.life_queue.specs.declared.life.Life.{Life}
 use Rattle.life_queue.specs.Lives.{going_of, life_seen, own_of, trees_in}
 use Rattle.life_queue.specs.Fine.{FineLife, FineTurn, held_back}
-use Rattle.slot_picks.specs.declared.crowd.Place.{Place}
+use Rattle.slot_picks.specs.declared.lives.Place.{Place}
 use Rattle.slot_picks.specs.Places.{seens_from}
 use Rattle.slot_picks.proofs.Others.{seen_none, seens_at}
 

@@ -12,10 +12,10 @@ use Rattle.page_build.specs.Standing.{Exchanges, HostPasses, IsSpare, IsStanding
 use Rattle.page_build.proofs.Passing.{pages_exchanged, passes_exchanged, spots_pass}
 use Rattle.page_build.proofs.Stands.{lot_stays, spare_stays, standing_stays}
 use Rattle.slot_laws.specs.Chains.{Chains, listed}
-use Rattle.slot_picks.specs.declared.crowd.Crowd.{Crowd}
-use Rattle.slot_picks.specs.declared.crowd.Place.{Place}
+use Rattle.slot_picks.specs.declared.lives.Lives.{Lives}
+use Rattle.slot_picks.specs.declared.lives.Place.{Place}
 use Rattle.slot_picks.specs.declared.slots.Slot.{Slot}
-use Rattle.slot_picks.specs.Crowds.{AreStanding, KeepsCrowd, chains_of, is_present, present_of, spots_of}
+use Rattle.slot_picks.specs.Lives.{AreStanding, KeepsLivesAndPage, chains_of, is_present, present_of, spots_of}
 use Rattle.slot_picks.specs.Places.{accepts_of, homes_of, roots_of}
 use Rattle.slot_picks.proofs.Presence.{chains_less, listed_back, not_present, present_back, present_listed, present_next, present_other, same_home, waiting_listed}
 
@@ -75,7 +75,7 @@ root_at (suc v) (l ∷ ls) a d e = root_at v ls a d e
 
 -- ## A pick of one life
 
-module _ (c d : Crowd) (ss : List Slot) (few : length c.places.items ≤ 32) (k : KeepsCrowd c d) where
+module _ (c d : Lives) (ss : List Slot) (few : length c.places.items ≤ 32) (k : KeepsLivesAndPage c d) where
   before : (v : ℕ) (b : Place) → slice_get d.places.items v ≡ Some b → Was v c.places.items b
   before v b at = was v c.places.items d.places.items b k.lives.homes k.lives.roots k.lives.accepts at
 
@@ -152,13 +152,13 @@ lot_exchanged p q n m c roots (Spot y) x l = l
 same_place : (o : Option Place) (a b : Place) → o ≡ Some a → o ≡ Some b → a ≡ b
 same_place o a b e f = let g : Some a ≡ Some b = sym e ∙ f in cc
 
-module _ (c : Crowd) (q : Page) (ss ts : List Slot) (w v u : ℕ) (vs : List ℕ) (a b : Place)
+module _ (c : Lives) (q : Page) (ss ts : List Slot) (w v u : ℕ) (vs : List ℕ) (a b : Place)
     (at : slice_get (chains_of ss) w ≡ Some (v ∷ u ∷ vs)) (set : chains_of ts ≡ slice_set (chains_of ss) w (u ∷ vs)) (same_names : map (λ (s : Slot). s.name) ts ≡ map (λ (s : Slot). s.name) ss)
     (ends : slice_get c.places.items v ≡ Some a) (comes : slice_get c.places.items u ≡ Some b) (few : length c.places.items ≤ 32) (h : AreStanding c ss) where
   abbrev p : Page
   p = c.shared.page
 
-  abbrev d : Crowd
+  abbrev d : Lives
   d = record c { shared = record c.shared { page = q } }
 
   present : slice_get (map present_of (chains_of ss)) w ≡ Some v

@@ -12,10 +12,10 @@ use Rattle.pick_laws.specs.Journal.{on_at}
 use Rattle.slot_laws.proofs.Housing.{chain_in}
 use Rattle.life_queue.specs.Fine.{KeepsCells}
 use Rattle.life_queue.proofs.Keeps.{cells_same}
-use Rattle.slot_picks.specs.declared.crowd.Crowd.{Crowd}
-use Rattle.slot_picks.specs.declared.crowd.Place.{Place}
+use Rattle.slot_picks.specs.declared.lives.Lives.{Lives}
+use Rattle.slot_picks.specs.declared.lives.Place.{Place}
 use Rattle.slot_picks.specs.declared.slots.Slot.{Slot}
-use Rattle.slot_picks.specs.Crowds.{AreStanding, FewCrowd, FineCrowd, KeepsLives, KeepsSlots, chains_of, seens_of}
+use Rattle.slot_picks.specs.Lives.{AreStanding, FewLives, FineLives, KeepsLives, KeepsSlots, chains_of, seens_of}
 use Rattle.slot_picks.specs.Places.{homes_of}
 use Rattle.slot_picks.proofs.Chained.{chains_at, chains_set}
 use Rattle.slot_picks.proofs.Others.{AllHaveCells, IsOff, fews_stay, fines_stay, seens_stay}
@@ -24,8 +24,8 @@ use Rattle.slot_picks.proofs.Stands.{new_spare, old_stands, pages_swap, standing
 
 -- ## The page changes for no life
 
-module _ (c : Crowd) (q : Page) (nodes : KeepsNodes c.shared.page q) (trees : (v : ℕ) → v < 32 → forest q v ≡ forest c.shared.page v) (fine : FineCrowd c) where
-  abbrev d : Crowd
+module _ (c : Lives) (q : Page) (nodes : KeepsNodes c.shared.page q) (trees : (v : ℕ) → v < 32 → forest q v ≡ forest c.shared.page v) (fine : FineLives c) where
+  abbrev d : Lives
   d = record c { shared = record c.shared { page = q } }
 
   cells : KeepsCells (trees_of []) 31 c.shared.store c.shared.store
@@ -43,10 +43,10 @@ module _ (c : Crowd) (q : Page) (nodes : KeepsNodes c.shared.page q) (trees : (v
   pub swap_seens : seens_of d ≡ seens_of c
   swap_seens = seens_stay 31 [] c.shared d.shared cells page 0 c.places.items off (omega (arith, fine.places)) fine.fine
 
-  pub swap_fine : FineCrowd d
+  pub swap_fine : FineLives d
   swap_fine = record { places = fine.places; fine = fines_stay 31 [] c.shared d.shared cells page raws 0 c.places.items off (omega (arith, fine.places)) fine.fine; short = fine.short }
 
-  pub swap_few : (n : ℕ) → FewCrowd n c → FewCrowd n d
+  pub swap_few : (n : ℕ) → FewLives n c → FewLives n d
   swap_few n few = fews_stay 31 [] c.shared d.shared cells page raws n 0 c.places.items off (omega (arith, fine.places)) fine.fine few
 
   pub swap_lives : KeepsLives c d
@@ -105,7 +105,7 @@ module _ (ss : List Slot) (w : ℕ) (s t x : Slot) (ds : List ℕ) (here : slice
       behind (y ∷ []) lt = absurd (omega (arith, lt))
       behind (y ∷ z ∷ xs) lt = omega arith
 
-module _ (c : Crowd) (ss : List Slot) (w v u : ℕ) (s t : Slot) (here : slice_get ss w ≡ Some s)
+module _ (c : Lives) (ss : List Slot) (w v u : ℕ) (s t : Slot) (here : slice_get ss w ≡ Some s)
     (ended : slice_get s.lives.items 0 ≡ Some v) (lives : t.lives.items ≡ drop 1 s.lives.items) (next : slice_get t.lives.items 0 ≡ Some u) (name : t.name ≡ s.name) (fuel : t.fuel ≡ s.fuel) where
   abbrev vs : List ℕ
   vs = drop 2 s.lives.items
@@ -133,7 +133,7 @@ module _ (c : Crowd) (ss : List Slot) (w v u : ℕ) (s t : Slot) (here : slice_g
       let chain = chain_in (homes_of c.places.items) h.born 0 w w (chains_of ss) (v ∷ u ∷ vs) (omega arith) at h.chains in
       (omega (arith, chain.below.0, h.few), omega (arith, chain.below.1.0, h.few))
 
-  module _ (a b : Place) (ends : slice_get c.places.items v ≡ Some a) (comes : slice_get c.places.items u ≡ Some b) (fine : FineCrowd c) (standing : AreStanding c ss) where
+  module _ (a b : Place) (ends : slice_get c.places.items v ≡ Some a) (comes : slice_get c.places.items u ≡ Some b) (fine : FineLives c) (standing : AreStanding c ss) where
     few : length c.places.items ≤ 32
     few = omega (arith, fine.places)
 

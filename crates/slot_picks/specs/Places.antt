@@ -11,7 +11,7 @@ use Rattle.slot_laws.specs.Settled.{flag}
 use Rattle.turn_returns.specs.declared.turn.Shared.{Shared}
 use Rattle.life_queue.specs.Lives.{life_seen}
 use Rattle.life_queue.specs.Fine.{FineLife, FineTurn, tally}
-use Rattle.slot_picks.specs.declared.crowd.Place.{Place}
+use Rattle.slot_picks.specs.declared.lives.Place.{Place}
 
 -- what all lives share, with the trees of the scripts of one of them
 abbrev pub lent : Shared → Place → Shared

@@ -2,12 +2,12 @@
 //! and picks are made until no slot is ready.
 #![tactic(auto)]
 
-mod crowd;
+mod lives;
 mod ready;
 mod settling;
 mod slots;
 
-pub use crowd::{Crowd, Place, spent_at};
+pub use lives::{Lives, Place, spent_at};
 pub use ready::ready_slots;
 pub use settling::settle_slots;
 pub use slots::{Slot, pick_slot, present};

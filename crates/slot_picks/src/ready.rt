@@ -7,10 +7,10 @@ ghost use Rattle.slot_laws.specs.Slots.{Each, slot_ready};
 ghost use Rattle.life_queue.specs.Lives.{life_seen};
 ghost use Rattle.turn_returns.specs.declared.turn.Shared.{Shared as SharedOf};
 ghost use Rattle.slot_picks.specs.declared.slots.Slot.{Slot as SlotOf};
-ghost use Rattle.slot_picks.specs.Crowds.{AreHoused, chains_of, seens_of};
+ghost use Rattle.slot_picks.specs.Lives.{AreHoused, chains_of, seens_of};
 ghost use Rattle.slot_picks.specs.Places.{seen_at, seens_from};
 
-use crate::crowd::{Crowd, Place};
+use crate::lives::{Lives, Place};
 use crate::slots::{Slot, present};
 use code_units::Memory;
 use life_queue::Life;
@@ -44,12 +44,12 @@ fn slot_is_ready(places: &[Place], slot: &[u32]) -> bool
 }
 
 // Whether this slot is ready.
-fn is_ready_at(crowd: &Crowd, slots: &[Slot], w: usize) -> bool
+fn is_ready_at(lives: &Lives, slots: &[Slot], w: usize) -> bool
     requires there { w < length slots.now }
-    requires housed { (born : ℕ) × AreHoused born crowd.now slots.now }
-    ensures { (s : SlotOf) → slice_get slots.now w ≡ Some s → result ≡ slot_ready (seens_of crowd.now) s.lives.items }
+    requires housed { (born : ℕ) × AreHoused born lives.now slots.now }
+    ensures { (s : SlotOf) → slice_get slots.now w ≡ Some s → result ≡ slot_ready (seens_of lives.now) s.lives.items }
 {
-    slot_is_ready(&crowd.places, &slots[w].lives)
+    slot_is_ready(&lives.places, &slots[w].lives)
 }
 
 // A number that is ready is kept.
@@ -63,13 +63,13 @@ fn note_ready(ready: &mut Vec<u32>, w: u32, is: bool) -> Result<(), Memory>
 }
 
 /// Fills a list anew with the slots that are ready, in rising order.
-pub(crate) fn fill_ready(ready: &mut Vec<u32>, crowd: &Crowd, slots: &[Slot]) -> Result<(), Memory>
-    requires housed { (born : ℕ) × AreHoused born crowd.now slots.now }
-    ensures { OnOk result (ready.new.items ≡ ready_from 0 (slot_flags (seens_of crowd.now) (chains_of slots.now))) }
+pub(crate) fn fill_ready(ready: &mut Vec<u32>, lives: &Lives, slots: &[Slot]) -> Result<(), Memory>
+    requires housed { (born : ℕ) × AreHoused born lives.now slots.now }
+    ensures { OnOk result (ready.new.items ≡ ready_from 0 (slot_flags (seens_of lives.now) (chains_of slots.now))) }
 {
     ready.clear();
     'slots: for w in 0..slots.len() {
-        let is = is_ready_at(crowd, slots, w);
+        let is = is_ready_at(lives, slots, w);
         note_ready(ready, w as u32, is)?;
     }
     Ok(())
@@ -77,11 +77,11 @@ pub(crate) fn fill_ready(ready: &mut Vec<u32>, crowd: &Crowd, slots: &[Slot]) ->
 
 /// The slots that are ready, in rising order: the present life of each has a turn in progress or a queue
 /// that is not empty, or a swap waits.
-pub fn ready_slots(alloc: Global, crowd: &Crowd, slots: &[Slot]) -> Result<Vec<u32>, Memory>
-    requires housed { (born : ℕ) × AreHoused born crowd.now slots.now }
-    ensures { IfOk result (λ v. v.items ≡ ready_from 0 (slot_flags (seens_of crowd.now) (chains_of slots.now))) }
+pub fn ready_slots(alloc: Global, lives: &Lives, slots: &[Slot]) -> Result<Vec<u32>, Memory>
+    requires housed { (born : ℕ) × AreHoused born lives.now slots.now }
+    ensures { IfOk result (λ v. v.items ≡ ready_from 0 (slot_flags (seens_of lives.now) (chains_of slots.now))) }
 {
     let mut ready = Vec::new(alloc);
-    fill_ready(&mut ready, crowd, slots)?;
+    fill_ready(&mut ready, lives, slots)?;
     Ok(ready)
 }

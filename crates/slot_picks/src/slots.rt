@@ -3,9 +3,9 @@ ghost use Rattle.std.specs.Prelude.{◌≡◌, ℕ, ◌<◌, IfOk, OnErr, OnOk, 
 ghost use Rattle.pick_laws.specs.Journal.{on_at};
 ghost use Rattle.slot_laws.specs.Chains.{PickedIn};
 ghost use Rattle.slot_picks.specs.declared.slots.Slot.{Slot as SlotOf};
-ghost use Rattle.slot_picks.specs.Crowds.{AreHoused, AreStanding, FewCrowd, FineCrowd, KeepsBeside, KeepsSlots, chains_of, seens_of};
+ghost use Rattle.slot_picks.specs.Lives.{AreHoused, AreStanding, FewLives, FineLives, KeepsBeside, KeepsSlots, chains_of, seens_of};
 
-use crate::crowd::{Crowd, pick_kept};
+use crate::lives::{Lives, pick_kept};
 use code_units::{Memory, Text};
 use page_build::swap_stands;
 use pick_laws::Picked;
@@ -48,23 +48,23 @@ fn end_present(slot: &mut Slot) -> u32
 
 // The present life of a slot ends, and the one whose swap waits is present: its node comes in the place of
 // the old one. Nothing is seen of it in any life.
-fn take_swap(crowd: &mut Crowd, slots: &mut Vec<Slot>, w: u32)
+fn take_swap(lives: &mut Lives, slots: &mut Vec<Slot>, w: u32)
     requires there { w < length slots.old.items }
     requires waits { (s : SlotOf) → slice_get slots.old.items w ≡ Some s → 1 < length s.lives.items }
-    requires fine { FineCrowd crowd.old }
-    requires standing { AreStanding crowd.old slots.old.items }
-    ensures seens { seens_of crowd.new ≡ seens_of crowd.old }
-    ensures journal { crowd.new.journal.items ≡ crowd.old.journal.items }
+    requires fine { FineLives lives.old }
+    requires standing { AreStanding lives.old slots.old.items }
+    ensures seens { seens_of lives.new ≡ seens_of lives.old }
+    ensures journal { lives.new.journal.items ≡ lives.old.journal.items }
     ensures chains { chains_of slots.new.items ≡ on_at w (drop 1) (chains_of slots.old.items) }
-    ensures fine { FineCrowd crowd.new }
-    ensures few { (n : ℕ) → FewCrowd n crowd.old → FewCrowd n crowd.new }
-    ensures stays { KeepsSlots crowd.old crowd.new slots.old.items slots.new.items }
+    ensures fine { FineLives lives.new }
+    ensures few { (n : ℕ) → FewLives n lives.old → FewLives n lives.new }
+    ensures stays { KeepsSlots lives.old lives.new slots.old.items slots.new.items }
 {
     let ended = end_present(&mut slots[w as usize]);
     let next = present(&slots[w as usize].lives);
-    let old = crowd.places[ended as usize].root;
-    let new = crowd.places[next as usize].root;
-    swap_stands(&mut crowd.shared.page, old, new);
+    let old = lives.places[ended as usize].root;
+    let new = lives.places[next as usize].root;
+    swap_stands(&mut lives.shared.page, old, new);
 }
 
 /// Carries on the turn of a slot, or the first that the queues of its lives begin, until the units are
@@ -72,34 +72,34 @@ fn take_swap(crowd: &mut Crowd, slots: &mut Vec<Slot>, w: u32)
 /// for that. `Memory` leaves the journal, and beside the slot all, as it was.
 pub fn pick_slot(
     alloc: Global,
-    crowd: &mut Crowd,
+    lives: &mut Lives,
     slots: &mut Vec<Slot>,
     w: u32,
     k: u32,
 ) -> Result<Picked, Memory>
     requires there { w < length slots.old.items }
     requires slice { 0 < k }
-    requires housed { (born : ℕ) × AreHoused born crowd.old slots.old.items }
-    requires standing { AreStanding crowd.old slots.old.items }
+    requires housed { (born : ℕ) × AreHoused born lives.old slots.old.items }
+    requires standing { AreStanding lives.old slots.old.items }
     ensures picked { IfOk result
-        (λ r. PickedIn w k r (chains_of slots.old.items) (chains_of slots.new.items) (seens_of crowd.old)
-        (seens_of crowd.new) crowd.old.journal.items crowd.new.journal.items) }
-    ensures housed { OnOk result ((born : ℕ) → AreHoused born crowd.old slots.old.items
-        → AreHoused born crowd.new slots.new.items) }
-    ensures few { OnOk result ((n : ℕ) → FewCrowd n crowd.old → FewCrowd n crowd.new) }
-    ensures beside { KeepsBeside w crowd.old crowd.new slots.old.items slots.new.items }
-    ensures still { OnErr result (crowd.new.journal.items ≡ crowd.old.journal.items) }
-    ensures stays { KeepsSlots crowd.old crowd.new slots.old.items slots.new.items }
+        (λ r. PickedIn w k r (chains_of slots.old.items) (chains_of slots.new.items) (seens_of lives.old)
+        (seens_of lives.new) lives.old.journal.items lives.new.journal.items) }
+    ensures housed { OnOk result ((born : ℕ) → AreHoused born lives.old slots.old.items
+        → AreHoused born lives.new slots.new.items) }
+    ensures few { OnOk result ((n : ℕ) → FewLives n lives.old → FewLives n lives.new) }
+    ensures beside { KeepsBeside w lives.old lives.new slots.old.items slots.new.items }
+    ensures still { OnErr result (lives.new.journal.items ≡ lives.old.journal.items) }
+    ensures stays { KeepsSlots lives.old lives.new slots.old.items slots.new.items }
 {
-    'lives: loop {
+    'swaps: loop {
         let v = present(&slots[w as usize].lives);
-        let picked = pick_kept(alloc, crowd, v, k)?;
+        let picked = pick_kept(alloc, lives, v, k)?;
         let Picked::Idle = picked else {
             return Ok(picked);
         };
         if !waits(&slots[w as usize].lives) {
             return Ok(picked);
         }
-        take_swap(crowd, slots, w);
+        take_swap(lives, slots, w);
     }
 }

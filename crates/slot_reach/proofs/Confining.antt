@@ -11,11 +11,11 @@ use Rattle.native_image.specs.Sound.{HoldsOwn}
 use Rattle.page_tree.specs.declared.page.Page.{Page}
 use Rattle.reach_cert.specs.Certs as cert
 use Rattle.slot_laws.specs.Chains.{last_life}
-use Rattle.slot_picks.specs.declared.crowd.Crowd.{Crowd}
-use Rattle.slot_picks.specs.declared.crowd.Place.{Place}
+use Rattle.slot_picks.specs.declared.lives.Lives.{Lives}
+use Rattle.slot_picks.specs.declared.lives.Place.{Place}
 use Rattle.slot_picks.specs.declared.slots.Slot.{Slot}
 use Rattle.turn_returns.specs.declared.turn.Shared.{Shared}
-use Rattle.slot_picks.specs.Crowds.{AreStanding, OwnCrowd}
+use Rattle.slot_picks.specs.Lives.{AreStanding, OwnLives}
 use Rattle.slot_picks.specs.Places.{HoldsItsOwn, OwnPlaces, homes_of}
 use Rattle.reach_cert.specs.Walks.{KeepsIn}
 use Rattle.store_reach.specs.Reads.{read_slot}
@@ -82,7 +82,7 @@ all_got : {X Y : Type 0} (P : Y → Type 0) (f : X → Y) (xs : List X) → ((k 
 all_got P f [] h = tt
 all_got P f (x ∷ xs) h = (h 0 x refl, all_got P f xs (λ k y e. h (suc k) y e))
 
-module _ (c : Crowd) (ss : List Slot) (law : Law c.shared) (own : OwnCrowd c) (stand : AreStanding c ss) where
+module _ (c : Lives) (ss : List Slot) (law : Law c.shared) (own : OwnLives c) (stand : AreStanding c ss) where
   abbrev names : List (Option (List ℕ))
   names = names_before ss (length c.places.items)
 
@@ -120,6 +120,6 @@ module _ (c : Crowd) (ss : List Slot) (law : Law c.shared) (own : OwnCrowd c) (s
   slots_stay = all_got KeepsIn (slot_read names c) ss slot_stays
 
 -- the certificate, by the names that were found
-pub read_is : (c : Crowd) (ss : List Slot) (read : List cert.Slot) (found made : List (Option (List ℕ))) (count : ℕ) → read ≡ map (slot_read found c) ss → found ≡ made → made ≡ names_before ss count → count ≡ length c.places.items → read ≡ reached c ss
+pub read_is : (c : Lives) (ss : List Slot) (read : List cert.Slot) (found made : List (Option (List ℕ))) (count : ℕ) → read ≡ map (slot_read found c) ss → found ≡ made → made ≡ names_before ss count → count ≡ length c.places.items → read ≡ reached c ss
 unfolding reached
 read_is c ss read found made count is same named all = is ∙ ap (λ ns. map (slot_read ns c) ss) (same ∙ named ∙ ap (names_before ss) all)

@@ -11,11 +11,11 @@ use Rattle.reach_cert.specs.Certs.{EndLine, HeldLine, Row, cell_lines, cert_line
 use Rattle.reach_cert.specs.Shape.{IsCert, is_name, slot_name}
 use Rattle.reach_cert.specs.Walks.{IsConfined}
 use Rattle.slot_laws.specs.Chains.{last_life}
-use Rattle.slot_picks.specs.declared.crowd.Crowd.{Crowd}
-use Rattle.slot_picks.specs.declared.crowd.Place.{Place}
+use Rattle.slot_picks.specs.declared.lives.Lives.{Lives}
+use Rattle.slot_picks.specs.declared.lives.Place.{Place}
 use Rattle.slot_picks.specs.declared.slots.Slot.{Slot}
 use Rattle.turn_returns.specs.declared.turn.Shared.{Shared}
-use Rattle.slot_picks.specs.Crowds.{AreStanding}
+use Rattle.slot_picks.specs.Lives.{AreStanding}
 use Rattle.slot_picks.specs.Places.{homes_of}
 use Rattle.store_reach.specs.Reads.{cell_row, cell_rows, held_refs, read_slot}
 use Rattle.slot_reach.specs.Lasts.{AreFew, AreNames, life_read, names_before, names_of, reached, slot_read}
@@ -60,7 +60,7 @@ all_sizes f (x ∷ xs) h =
 all_lines : (slots : List cert.Slot) (n : ℕ) → length (flat_map slot_lines slots) ≤ 524290 * n → n ≤ 16 → length (cert_lines slots) < 4294967295
 all_lines slots n size few = omega (arith, length-append (flat_map slot_lines slots) (EndLine ∷ []), size, few)
 
-module _ (c : Crowd) (ss : List Slot) (law : Few c.shared) (stand : AreStanding c ss) (few : AreFew c ss) where
+module _ (c : Lives) (ss : List Slot) (law : Few c.shared) (stand : AreStanding c ss) (few : AreFew c ss) where
   abbrev names : List (Option (List ℕ))
   names = names_before ss (length c.places.items)
 
@@ -90,23 +90,23 @@ life_named found h name v p = by p.life.accepted
     by true = refl
     by false = refl
 
-slot_named : (found : List (Option (List ℕ))) (c : Crowd) (s : Slot) → slot_name (slot_read found c s) ≡ s.name
+slot_named : (found : List (Option (List ℕ))) (c : Lives) (s : Slot) → slot_name (slot_read found c s) ≡ s.name
 slot_named found c s = by (slice_get c.places.items (last_life s.lives.items))
   where
     by : (x : Option Place) → slot_name (option_map_or (life_read found c.shared s.name (last_life s.lives.items)) x (cert.Refused s.name)) ≡ s.name
     by None = refl
     by (Some p) = life_named found c.shared s.name (last_life s.lives.items) p
 
-named_along : (found : List (Option (List ℕ))) (c : Crowd) (ss : List Slot) → map slot_name (map (slot_read found c) ss) ≡ names_of ss
+named_along : (found : List (Option (List ℕ))) (c : Lives) (ss : List Slot) → map slot_name (map (slot_read found c) ss) ≡ names_of ss
 named_along found c [] = refl
 named_along found c (s ∷ ss) = (λ i. slot_named found c s i ∷ named_along found c ss i)
 
-pub names_are : (c : Crowd) (ss : List Slot) → map slot_name (reached c ss) ≡ names_of ss
+pub names_are : (c : Lives) (ss : List Slot) → map slot_name (reached c ss) ≡ names_of ss
 unfolding reached
 names_are c ss = named_along (names_before ss (length c.places.items)) c ss
 
 -- so many slots
-as_many : (c : Crowd) (ss : List Slot) → length (reached c ss) ≡ length ss
+as_many : (c : Lives) (ss : List Slot) → length (reached c ss) ≡ length ss
 unfolding reached
 as_many c ss = length-map ss (slot_read (names_before ss (length c.places.items)) c)
 
@@ -115,6 +115,6 @@ as_many c ss = length-map ss (slot_read (names_before ss (length c.places.items)
 abbrev pub ShapeLaw : Type 0
 ShapeLaw = (slots : List cert.Slot) → IsConfined slots → length slots ≤ 16 → list_all is_name (map slot_name slots) ≡ true → IsDistinct bytes_eq (map slot_name slots) → length (cert_lines slots) < 4294967295 → IsCert slots
 
-pub shaped : (c : Crowd) (ss : List Slot) → ShapeLaw → IsConfined (reached c ss) → length (cert_lines (reached c ss)) < 4294967295 → AreFew c ss → AreNames (names_of ss) → IsCert (reached c ss)
+pub shaped : (c : Lives) (ss : List Slot) → ShapeLaw → IsConfined (reached c ss) → length (cert_lines (reached c ss)) < 4294967295 → AreFew c ss → AreNames (names_of ss) → IsCert (reached c ss)
 shaped c ss law confined lines few named =
     law (reached c ss) confined (omega (arith, as_many c ss, few.1)) (ap (list_all is_name) (names_are c ss) ∙ named.0) (subst (IsDistinct bytes_eq) (sym (names_are c ss)) named.1) lines

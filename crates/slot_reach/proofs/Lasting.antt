@@ -6,8 +6,8 @@ use Rattle.store_cells.proofs.Lists.{none_some, some_same}
 use Rattle.life_laws.specs.Life.{Seen, image}
 use Rattle.slot_laws.specs.Chains.{last_life}
 use Rattle.slot_laws.specs.Settled.{flag}
-use Rattle.slot_picks.specs.declared.crowd.Crowd.{Crowd}
-use Rattle.slot_picks.specs.declared.crowd.Place.{Place}
+use Rattle.slot_picks.specs.declared.lives.Lives.{Lives}
+use Rattle.slot_picks.specs.declared.lives.Place.{Place}
 use Rattle.slot_picks.specs.declared.slots.Slot.{Slot}
 use Rattle.life_queue.specs.Lives.{life_seen}
 use Rattle.turn_returns.specs.declared.turn.Shared.{Shared}
@@ -28,7 +28,7 @@ accepted_at [] v p e = absurd (none_some e)
 accepted_at (q ∷ ps) zero p e = ap (λ (x : Place). x.life.accepted) (some_same q p e)
 accepted_at (q ∷ ps) (suc v) p e = accepted_at ps v p e
 
-end_is : (c : Crowd) (s : Slot) (end : Option OwnState) → IsLast c s end → option_and_then (state_at c.shared (last_life s.lives.items)) (slice_get c.places.items (last_life s.lives.items)) ≡ end
+end_is : (c : Lives) (s : Slot) (end : Option OwnState) → IsLast c s end → option_and_then (state_at c.shared (last_life s.lives.items)) (slice_get c.places.items (last_life s.lives.items)) ≡ end
 end_is c s None h = by (slice_get c.places.items (last_life s.lives.items)) refl
   where
     by : (x : Option Place) → slice_get c.places.items (last_life s.lives.items) ≡ x → option_and_then (state_at c.shared (last_life s.lives.items)) x ≡ None
@@ -46,7 +46,7 @@ end_is c s (Some o) h =
     ∙ ap (λ b. if b then Some (image (life_seen (lent c.shared p) v p.life)) else None) accepted
     ∙ ap (λ x. Some (image x)) same ∙ ap Some h.1.2
 
-pub ends_are : (c : Crowd) (ss : List Slot) (ends : List (Option OwnState)) → AreLast c ss ends → states c ss ≡ zip (names_of ss) ends
+pub ends_are : (c : Lives) (ss : List Slot) (ends : List (Option OwnState)) → AreLast c ss ends → states c ss ≡ zip (names_of ss) ends
 unfolding states
 ends_are c [] [] h = refl
 ends_are c [] (e ∷ es) h = absurd h

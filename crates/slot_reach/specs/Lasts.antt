@@ -4,13 +4,13 @@ use Rattle.std.specs.List.{IsDistinct, list_all}
 use Rattle.std.specs.Option.{option_and_then, option_map_or}
 use Rattle.std.specs.Str.{bytes_eq}
 use Rattle.slot_laws.specs.Chains.{last_life}
-use Rattle.slot_picks.specs.declared.crowd.Crowd.{Crowd}
-use Rattle.slot_picks.specs.declared.crowd.Place.{Place}
+use Rattle.slot_picks.specs.declared.lives.Lives.{Lives}
+use Rattle.slot_picks.specs.declared.lives.Place.{Place}
 use Rattle.slot_picks.specs.declared.slots.Slot.{Slot}
 use Rattle.life_laws.specs.Life.{Seen, image}
 use Rattle.life_queue.specs.Lives.{life_seen}
 use Rattle.slot_picks.specs.Places.{is_accepted, lent}
-use Rattle.slot_picks.specs.Crowds.{seens_of}
+use Rattle.slot_picks.specs.Lives.{seens_of}
 use Rattle.turn_returns.specs.declared.turn.Shared.{Shared}
 use Rattle.reach_cert.specs.Certs as cert
 use Rattle.reach_cert.specs.Shape.{is_name}
@@ -32,11 +32,11 @@ abbrev pub life_read : List (Option (List ℕ)) → Shared → List ℕ → ℕ 
 life_read names h name v p = if p.life.accepted then read_slot names h.store.cells name v h.page p.life.widget.around else cert.Refused name
 
 -- what is read of a slot: its last life, under its name
-abbrev pub slot_read : List (Option (List ℕ)) → Crowd → Slot → cert.Slot
+abbrev pub slot_read : List (Option (List ℕ)) → Lives → Slot → cert.Slot
 slot_read names c s = option_map_or (life_read names c.shared s.name (last_life s.lives.items)) (slice_get c.places.items (last_life s.lives.items)) (cert.Refused s.name)
 
 -- the certificate of all slots
-unfoldable pub reached : Crowd → List Slot → List cert.Slot
+unfoldable pub reached : Lives → List Slot → List cert.Slot
 reached c ss = map (slot_read (names_before ss (length c.places.items)) c) ss
 
 -- ## Names and numbers of slots
@@ -50,7 +50,7 @@ abbrev pub AreNames : List (List ℕ) → Type 0
 AreNames names = (list_all is_name names ≡ true) × IsDistinct bytes_eq names
 
 -- there are at most 16 slots, and places for at most 32 lives
-abbrev pub AreFew : Crowd → List Slot → Type 0
+abbrev pub AreFew : Lives → List Slot → Type 0
 AreFew c ss = (length c.places.items ≤ 32) × (length ss ≤ 16)
 
 -- ## Own states
@@ -60,20 +60,20 @@ abbrev pub state_at : Shared → ℕ → Place → Option OwnState
 state_at h v p = if p.life.accepted then Some (image (life_seen (lent h p) v p.life)) else None
 
 -- a slot's name, and the own state of its last life
-abbrev pub state_in : Crowd → Slot → List ℕ × Option OwnState
+abbrev pub state_in : Lives → Slot → List ℕ × Option OwnState
 state_in c s = (s.name, option_and_then (state_at c.shared (last_life s.lives.items)) (slice_get c.places.items (last_life s.lives.items)))
 
 -- those of all slots
-unfoldable pub states : Crowd → List Slot → List (List ℕ × Option OwnState)
+unfoldable pub states : Lives → List Slot → List (List ℕ × Option OwnState)
 states c ss = map (state_in c) ss
 
 -- the last life of a slot shows this own state, or none where its file was refused
-abbrev pub IsLast : Crowd → Slot → Option OwnState → Type 0
+abbrev pub IsLast : Lives → Slot → Option OwnState → Type 0
 IsLast c s None = is_accepted c.places.items (last_life s.lives.items) ≡ false
 IsLast c s (Some o) = (is_accepted c.places.items (last_life s.lives.items) ≡ true) × ((x : Seen) × (slice_get (seens_of c) (last_life s.lives.items) ≡ Some x) × (image x ≡ o))
 
 -- so do those of these slots
-abbrev pub AreLast : Crowd → List Slot → List (Option OwnState) → Type 0
+abbrev pub AreLast : Lives → List Slot → List (Option OwnState) → Type 0
 AreLast c [] [] = Unit {0}
 AreLast c (s ∷ ss) (e ∷ es) = IsLast c s e × AreLast c ss es
 AreLast c _ _ = ⊥

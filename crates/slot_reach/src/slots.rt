@@ -3,7 +3,7 @@ ghost use Rattle.std.specs.Prelude.{◌≡◌, ◌<◌, IfOk, length, map};
 ghost use Rattle.reach_cert.specs.Certs.{cert_lines, plain, slot_of};
 ghost use Rattle.reach_cert.specs.Shape.{IsCert, slot_name};
 ghost use Rattle.reach_cert.specs.Walks.{IsConfined};
-ghost use Rattle.slot_picks.specs.Crowds.{AreStanding, OwnCrowd};
+ghost use Rattle.slot_picks.specs.Lives.{AreStanding, OwnLives};
 ghost use Rattle.slot_reach.specs.Lasts.{AreFew, AreNames, life_read, names_of, reached, slot_read, states};
 ghost use Rattle.state_reach.specs.States.{cert_of_states};
 
@@ -11,7 +11,7 @@ use crate::few::cells_are_few;
 use crate::names::{last_of, name_all};
 use code_units::{Memory, Text};
 use reach_cert::{Block, Cert, confined_has_shape, each_slot_keeps_in};
-use slot_picks::{Crowd, Place, Slot};
+use slot_picks::{Lives, Place, Slot};
 use state_reach::{names_all_differ, states_are_read};
 use std::alloc::Global;
 use store_reach::{own_stays, read_block};
@@ -45,15 +45,15 @@ fn read_life(
 // The block of a slot.
 fn read_slot(
     alloc: Global,
-    crowd: &Crowd,
+    lives: &Lives,
     names: &[Option<Text>],
     slot: &Slot,
 ) -> Result<Block, Memory>
-    ensures { IfOk result (λ b. slot_of b ≡ slot_read names.now crowd.now slot.now) }
+    ensures { IfOk result (λ b. slot_of b ≡ slot_read names.now lives.now slot.now) }
 {
     let v = last_of(&slot.lives);
-    match crowd.places.get(v as usize) {
-        Some(place) => read_life(alloc, &crowd.shared, names, &slot.name, v, place),
+    match lives.places.get(v as usize) {
+        Some(place) => read_life(alloc, &lives.shared, names, &slot.name, v, place),
         None => Ok(Block::Refused(slot.name.share()?)),
     }
 }
@@ -61,24 +61,24 @@ fn read_slot(
 // The blocks of all slots.
 fn read_slots(
     alloc: Global,
-    crowd: &Crowd,
+    lives: &Lives,
     names: &[Option<Text>],
     slots: &[Slot],
 ) -> Result<Vec<Block>, Memory>
-    ensures { IfOk result (λ blocks. map slot_of blocks.items ≡ map (slot_read names.now crowd.now) slots.now) }
+    ensures { IfOk result (λ blocks. map slot_of blocks.items ≡ map (slot_read names.now lives.now) slots.now) }
 {
     let mut blocks = Vec::new(alloc);
     'each: for slot in slots {
-        blocks.push(read_slot(alloc, crowd, names, slot)?)?;
+        blocks.push(read_slot(alloc, lives, names, slot)?)?;
     }
     Ok(blocks)
 }
 
 // How many lives there are places for.
-fn count(crowd: &Crowd) -> Result<u32, Memory>
-    ensures { IfOk result (λ n. n ≡ length crowd.now.places.items) }
+fn count(lives: &Lives) -> Result<u32, Memory>
+    ensures { IfOk result (λ n. n ≡ length lives.now.places.items) }
 {
-    match u32::try_from(crowd.places.len()) {
+    match u32::try_from(lives.places.len()) {
         Ok(many) => Ok(many),
         Err(_) => Err(Memory),
     }
@@ -89,25 +89,25 @@ fn count(crowd: &Crowd) -> Result<u32, Memory>
 /// Where each life holds its own, this is the certificate of the own states of these lives, and it is confined.
 /// Of at most 16 slots it has few lines; and it is of the stated shape where the slots have names of slots, so
 /// that its text is read as it.
-pub fn reach(alloc: Global, crowd: &Crowd, slots: &[Slot]) -> Result<Cert, Memory>
-    ensures read { IfOk result (λ cert. plain cert ≡ reached crowd.now slots.now) }
-    ensures states { IfOk result (λ cert. OwnCrowd crowd.now → AreStanding crowd.now slots.now
-        → plain cert ≡ cert_of_states (states crowd.now slots.now)) }
-    ensures confined { IfOk result (λ cert. OwnCrowd crowd.now → AreStanding crowd.now slots.now
+pub fn reach(alloc: Global, lives: &Lives, slots: &[Slot]) -> Result<Cert, Memory>
+    ensures read { IfOk result (λ cert. plain cert ≡ reached lives.now slots.now) }
+    ensures states { IfOk result (λ cert. OwnLives lives.now → AreStanding lives.now slots.now
+        → plain cert ≡ cert_of_states (states lives.now slots.now)) }
+    ensures confined { IfOk result (λ cert. OwnLives lives.now → AreStanding lives.now slots.now
         → IsConfined (plain cert)) }
     ensures names { IfOk result (λ cert. map slot_name (plain cert) ≡ names_of slots.now) }
-    ensures few { IfOk result (λ cert. AreStanding crowd.now slots.now → AreFew crowd.now slots.now
+    ensures few { IfOk result (λ cert. AreStanding lives.now slots.now → AreFew lives.now slots.now
         → length (cert_lines (plain cert)) < 4294967295) }
-    ensures shape { IfOk result (λ cert. OwnCrowd crowd.now → AreStanding crowd.now slots.now
-        → AreFew crowd.now slots.now → AreNames (names_of slots.now) → IsCert (plain cert)) }
+    ensures shape { IfOk result (λ cert. OwnLives lives.now → AreStanding lives.now slots.now
+        → AreFew lives.now slots.now → AreNames (names_of slots.now) → IsCert (plain cert)) }
 {
-    names_all_differ(&crowd.shared.store)?;
-    states_are_read(&crowd.shared.store);
-    own_stays(&crowd.shared.store);
-    cells_are_few(&crowd.shared.store);
+    names_all_differ(&lives.shared.store)?;
+    states_are_read(&lives.shared.store);
+    own_stays(&lives.shared.store);
+    cells_are_few(&lives.shared.store);
     each_slot_keeps_in();
     confined_has_shape();
-    let names = name_all(alloc, slots, count(crowd)?)?;
-    let blocks = read_slots(alloc, crowd, &names, slots)?;
+    let names = name_all(alloc, slots, count(lives)?)?;
+    let blocks = read_slots(alloc, lives, &names, slots)?;
     Ok(Cert { blocks })
 }

@@ -12,9 +12,9 @@ use Rattle.post_rounds.specs.declared.posts.PostEvent.{PostEvent}
 use Rattle.post_rounds.specs.Events.{values}
 use Rattle.post_rounds.specs.News.{all_news, news}
 use Rattle.slot_laws.specs.Chains.{last_life}
-use Rattle.slot_picks.specs.declared.crowd.Place.{Place}
+use Rattle.slot_picks.specs.declared.lives.Place.{Place}
 use Rattle.slot_picks.specs.declared.slots.Slot.{Slot}
-use Rattle.slot_picks.specs.Crowds.{chains_of}
+use Rattle.slot_picks.specs.Lives.{chains_of}
 use Rattle.slot_picks.specs.Places.{is_accepted}
 use Rattle.widget_meaning.specs.Limits.{max_posts}
 use Rattle.slot_rounds.specs.Feeding.{AreStill, counts_for, events_for, sum_of}

@@ -3,7 +3,7 @@ use Rattle.std.proofs.Common.{◌≡◌, ℕ, zero, suc, ◌+◌, ◌<◌, ◌�
 use Rattle.std.specs.Prelude.{slice_get}
 use Rattle.slot_laws.specs.Chains.{Chains, last_from, last_life}
 use Rattle.slot_picks.specs.declared.slots.Slot.{Slot}
-use Rattle.slot_picks.specs.Crowds.{chains_of}
+use Rattle.slot_picks.specs.Lives.{chains_of}
 use Rattle.slot_rounds.proofs.More.{chain_at, last_each, some_is}
 
 last_end_from : (y : ℕ) (ys : List ℕ) (n x : ℕ) → n + 1 ≡ length (y ∷ ys) → slice_get (y ∷ ys) n ≡ Some x → x ≡ last_from y ys

@@ -3,7 +3,7 @@ use Rattle.std.proofs.Common.{◌≡◌, ◌≢◌, ℕ, zero, suc, ◌+◌, ◌
 use Rattle.std.specs.Prelude.{slice_get, nat_eq, if◌then◌else◌}
 use Rattle.std.proofs.lemmas.List.{append-nil, take_all}
 use Rattle.slot_laws.specs.Chains.{last_life}
-use Rattle.slot_picks.specs.declared.crowd.Place.{Place}
+use Rattle.slot_picks.specs.declared.lives.Place.{Place}
 use Rattle.slot_picks.specs.Places.{told_of}
 use Rattle.slot_rounds.specs.Feeding.{counts_for, events_for, sum_of}
 use Rattle.slot_rounds.specs.Posting.{AreAlike, HasEvents, HasRound, HaveRound, IsAlike}

@@ -20,7 +20,7 @@ use Rattle.life_queue.specs.declared.life.Work.{Work}
 use Rattle.life_queue.specs.declared.life.Work.TheVariants as work
 use Rattle.life_queue.specs.Lives as lives
 use Rattle.life_queue.specs.Lives.{life_seen, trees_in, work_of}
-use Rattle.slot_picks.specs.declared.crowd.Place.{Place}
+use Rattle.slot_picks.specs.declared.lives.Place.{Place}
 use Rattle.slot_picks.specs.Places.{is_accepted, lent, seen_at, seens_from, told_of}
 use Rattle.slot_rounds.specs.Feeding.{AreFed, AreStill, Delivers, HaveDone, IsLastFed, counts_for, events_for, fresh_lasts, gets, given_events, posts_seen, told_more, with_more}
 use Rattle.slot_rounds.specs.Posting.{AreAlike, AreEvents, GivesRound, HasRound, HaveRound, IsAlike, IsEvent, IsRound, WereGiven, fresh_of_life, fresh_of_lasts, post_in}

@@ -14,7 +14,7 @@ use Rattle.life_queue.specs.declared.life.Work.{Work}
 use Rattle.life_queue.specs.declared.life.Work.TheVariants as work
 use Rattle.life_queue.specs.Lives.{life_seen, trees_in, work_of, works_of}
 use Rattle.life_queue.specs.Fine.{FineLife, FineWork, tally}
-use Rattle.slot_picks.specs.declared.crowd.Place.{Place}
+use Rattle.slot_picks.specs.declared.lives.Place.{Place}
 use Rattle.slot_picks.specs.Places.{FewPlace, FewPlaces, FinePlace, FinePlaces, lent}
 use Rattle.slot_rounds.specs.Feeding.{events_for, given_events, with_more}
 use Rattle.slot_rounds.specs.Posting.{AreEvents, HasRound, HaveRound, IsEvent}

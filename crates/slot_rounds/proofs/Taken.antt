@@ -9,7 +9,7 @@ use Rattle.slot_laws.specs.Chains.{Chains, last_life}
 use Rattle.post_rounds.specs.declared.posts.Post.{Post}
 use Rattle.post_rounds.specs.News.{all_news, heard, is_declared, is_to, name, news, news_from, value_of}
 use Rattle.widget_meaning.specs.Limits.{max_posts}
-use Rattle.slot_picks.specs.declared.crowd.Place.{Place}
+use Rattle.slot_picks.specs.declared.lives.Place.{Place}
 use Rattle.slot_picks.specs.Places.{homes_of, is_accepted, told_of}
 use Rattle.slot_rounds.specs.Feeding.{AreStill, counts_for, events_for, sum_of, told_more}
 use Rattle.slot_rounds.specs.Posting.{HaveRound, IsRound, fresh_of_life, fresh_of_lasts, post_in}

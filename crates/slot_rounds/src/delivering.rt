@@ -4,7 +4,7 @@ ghost use Rattle.std.specs.List.{IsDistinct};
 ghost use Rattle.std.specs.Str.{bytes_eq};
 ghost use Rattle.life_laws.specs.Life.{image};
 ghost use Rattle.slot_laws.specs.Chains.{Chains};
-ghost use Rattle.slot_picks.specs.Crowds.{chains_of};
+ghost use Rattle.slot_picks.specs.Lives.{chains_of};
 ghost use Rattle.slot_picks.specs.Places.{homes_of, seens_from, told_of};
 ghost use Rattle.slot_picks.specs.declared.slots.Slot.{Slot as SlotOf};
 ghost use Rattle.turn_returns.specs.declared.turn.Shared.{Shared};

@@ -2,10 +2,10 @@
 ghost use Rattle.std.specs.Prelude.{◌≡◌, ◌+◌, ◌<◌, ◌≤◌, ◌^◌, ℕ, [], OnOk, Some, codes, false, if◌then◌else◌, length, map, nat_eq, slice_get};
 ghost use Rattle.post_rounds.specs.Events.{values};
 ghost use Rattle.slot_laws.specs.Chains.{Chains, last_life};
-ghost use Rattle.slot_picks.specs.Crowds.{chains_of};
+ghost use Rattle.slot_picks.specs.Lives.{chains_of};
 ghost use Rattle.slot_picks.specs.Places.{homes_of, told_of};
 ghost use Rattle.slot_rounds.specs.Feeding.{counts_for, events_for, is_last, sum_of};
-ghost use Rattle.slot_picks.specs.declared.crowd.Place.{Place as PlaceOf};
+ghost use Rattle.slot_picks.specs.declared.lives.Place.{Place as PlaceOf};
 ghost use Rattle.slot_rounds.specs.Posting.{AreAlike, HasEvents, HasRound, HaveRound, IsAlike};
 
 use crate::posting::event_of;

@@ -3,7 +3,7 @@ ghost use Rattle.std.specs.Prelude.{◌≡◌, ◌≢◌, ◌<◌, ◌≤◌, �
 ghost use Rattle.widget_meaning.specs.Limits.{max_posts};
 ghost use Rattle.post_rounds.specs.Events.{values};
 ghost use Rattle.slot_laws.specs.Chains.{Chains, last_life};
-ghost use Rattle.slot_picks.specs.Crowds.{chains_of};
+ghost use Rattle.slot_picks.specs.Lives.{chains_of};
 ghost use Rattle.slot_picks.specs.Places.{homes_of, is_accepted};
 ghost use Rattle.slot_picks.specs.declared.slots.Slot.{Slot as SlotOf};
 ghost use Rattle.slot_rounds.specs.Feeding.{AreStill};

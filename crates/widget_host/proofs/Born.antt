@@ -12,10 +12,10 @@ use Rattle.page_image.specs.Image.{root_of}
 use Rattle.page_build.specs.Layout.{IsLot, lot_of}
 use Rattle.page_build.specs.Standing.{AreSpots, IsSpare}
 use Rattle.page_load.specs.Joining.{PageJoins}
-use Rattle.slot_picks.specs.declared.crowd.Crowd.{Crowd}
-use Rattle.slot_picks.specs.declared.crowd.Place.{Place}
+use Rattle.slot_picks.specs.declared.lives.Lives.{Lives}
+use Rattle.slot_picks.specs.declared.lives.Place.{Place}
 use Rattle.slot_picks.specs.declared.slots.Slot.{Slot}
-use Rattle.slot_picks.specs.Crowds.{AreStanding, chains_of, is_present, present_of, spots_of}
+use Rattle.slot_picks.specs.Lives.{AreStanding, chains_of, is_present, present_of, spots_of}
 use Rattle.slot_picks.specs.Places.{homes_of, roots_of}
 use Rattle.widget_host.proofs.Sets.{get_else, get_here, index_else, map_set, none_some, same_map, some_is, within}
 
@@ -108,7 +108,7 @@ spots_by rs [] = refl
 spots_by rs (c ∷ cs) = ap (λ ps. slice_index_or rs (present_of c) body ∷ ps) (spots_by rs cs)
 
 -- The spots stay where a life joins.
-module _ (c d : Crowd) (ss ts : List Slot) (v : ℕ) (a : Place) (homes : List ℕ) (chains : Chains homes v 0 (chains_of ss)) (places : d.places.items ≡ slice_set c.places.items v a) (present : map present_of (chains_of ts) ≡ map present_of (chains_of ss)) where
+module _ (c d : Lives) (ss ts : List Slot) (v : ℕ) (a : Place) (homes : List ℕ) (chains : Chains homes v 0 (chains_of ss)) (places : d.places.items ≡ slice_set c.places.items v a) (present : map present_of (chains_of ts) ≡ map present_of (chains_of ss)) where
   roots_now : roots_of d.places.items ≡ slice_set (roots_of c.places.items) v a.root
   roots_now = ap roots_of places ∙ map_set (λ (p : Place). p.root) c.places.items v a
 
@@ -129,7 +129,7 @@ pub record IsSeated (p q : Page) (ss : List Slot) (v : ℕ) (a : Place) : Type 0
   pub spare : IsSpare q a.root
   pub fresh : length (nodes p) ≤ a.root
 
-module _ (c d : Crowd) (ss ts : List Slot) (v : ℕ) (a : Place) (homes : List ℕ) (low : v < 20) (twenty : length c.places.items ≡ 20)
+module _ (c d : Lives) (ss ts : List Slot) (v : ℕ) (a : Place) (homes : List ℕ) (low : v < 20) (twenty : length c.places.items ≡ 20)
     (chains : Chains homes v 0 (chains_of ss)) (places : d.places.items ≡ slice_set c.places.items v a) (page : PageJoins v c.shared.page d.shared.page)
     (names : map (λ (s : Slot). s.name) ts ≡ map (λ (s : Slot). s.name) ss) (present : map present_of (chains_of ts) ≡ map present_of (chains_of ss))
     (is_listed : (u : ℕ) → listed u (chains_of ts) ≡ true → (u ≡ v) ⊎ (listed u (chains_of ss) ≡ true))
@@ -209,7 +209,7 @@ module _ (c d : Crowd) (ss ts : List Slot) (v : ℕ) (a : Place) (homes : List �
   }
 
 -- Where no life came, all stands as it did.
-module _ (c d : Crowd) (ss ts : List Slot) (v : ℕ) (twenty : length c.places.items ≡ 20) (free : (b : Place) → slice_get c.places.items v ≡ Some b → b.life.accepted ≡ false)
+module _ (c d : Lives) (ss ts : List Slot) (v : ℕ) (twenty : length c.places.items ≡ 20) (free : (b : Place) → slice_get c.places.items v ≡ Some b → b.life.accepted ≡ false)
     (places : d.places.items ≡ c.places.items) (page : PageJoins v c.shared.page d.shared.page)
     (names : map (λ (s : Slot). s.name) ts ≡ map (λ (s : Slot). s.name) ss) (same : chains_of ts ≡ chains_of ss) (st : AreStanding c ss) where
   was : (u : ℕ) (b : Place) → slice_get d.places.items u ≡ Some b → slice_get c.places.items u ≡ Some b

@@ -13,12 +13,12 @@ use Rattle.pick_laws.specs.Journal.{AllJoined}
 use Rattle.slot_laws.specs.Chains.{Chains, Rest, Unspent, listed}
 use Rattle.slot_laws.specs.Settled.{flag}
 use Rattle.turn_returns.specs.declared.turn.Shared.{Shared}
-use Rattle.slot_picks.specs.declared.crowd.Place.{Place}
+use Rattle.slot_picks.specs.declared.lives.Place.{Place}
 use Rattle.life_queue.specs.Lives.{life_seen}
 use Rattle.slot_picks.specs.Places.{FewPlace, FewPlaces, FinePlace, FinePlaces, OwnPlaces, accepts_of, codes_of, homes_of, lent, roots_of, seen_at, seens_from, told_of}
 use Rattle.slot_picks.specs.declared.slots.Slot.{Slot}
-use Rattle.slot_picks.specs.declared.crowd.Crowd.{Crowd}
-use Rattle.slot_picks.specs.Crowds.{AreHoused, AreStanding, FewCrowd, OwnCrowd, chains_of, seens_of, spots_of}
+use Rattle.slot_picks.specs.declared.lives.Lives.{Lives}
+use Rattle.slot_picks.specs.Lives.{AreHoused, AreStanding, FewLives, OwnLives, chains_of, seens_of, spots_of}
 use Rattle.page_build.specs.Homes.{HaveRaws}
 use Rattle.page_build.specs.Standing.{HavePlaces, IsLaidBy}
 use Rattle.page_nodes.specs.Entries.{body}
@@ -123,10 +123,10 @@ chains_from homes (suc n) w le at = (record { some = omega arith; rising = (tt, 
 
 module _ (spec : PageSpec) (l : Loaded) (loads : LoadsPage spec l) where
   abbrev h : Shared
-  h = l.crowd.shared
+  h = l.lives.shared
 
   abbrev lives : List Place
-  lives = l.crowd.places.items
+  lives = l.lives.places.items
 
   -- an accepted life is that of a slot with its widget
   begun : (v : ℕ) (a : Place) → slice_get lives v ≡ Some a → a.life.accepted ≡ true → (s : SlotSpec) × (c : Content) × (slice_get spec.slots.items v ≡ Some s) × (content_of spec.libs.items s.content ≡ Some c) × Begins h v s.fuel c a
@@ -251,7 +251,7 @@ module _ (spec : PageSpec) (l : Loaded) (loads : LoadsPage spec l) where
 
 -- ## The host of a page
 
-module _ (spec : PageSpec) (l : Loaded) (loads : LoadsPage spec l) (host : Host) (crowd_is : host.crowd ≡ l.crowd) (slots_are : host.slots ≡ l.slots) (libs_are : host.libs ≡ l.libs) (pairs : host.channels ≡ l.channels) (fresh : host.ends.items ≡ []) (apart_names : IsDistinct bytes_eq (names_of spec)) (none_given : host.given ≡ 0) (is_unmarked : host.marked ≡ false) where
+module _ (spec : PageSpec) (l : Loaded) (loads : LoadsPage spec l) (host : Host) (lives_is : host.lives ≡ l.lives) (slots_are : host.slots ≡ l.slots) (libs_are : host.libs ≡ l.libs) (pairs : host.channels ≡ l.channels) (fresh : host.ends.items ≡ []) (apart_names : IsDistinct bytes_eq (names_of spec)) (none_given : host.given ≡ 0) (is_unmarked : host.marked ≡ false) where
   are : chains_of host.slots.items ≡ singles 0 (length spec.slots.items)
   are = ap (λ s. chains_of s.items) slots_are ∙ loads.chains
 
@@ -259,14 +259,14 @@ module _ (spec : PageSpec) (l : Loaded) (loads : LoadsPage spec l) (host : Host)
   unfolding ends
   no_swaps = ap length fresh
 
-  housed : AreHoused 16 l.crowd l.slots.items
+  housed : AreHoused 16 l.lives l.slots.items
   housed = record {
-    crowd = record { places = loads.twenty; fine = fine_lives spec l loads; short = omega (arith, ap length loads.journal) };
+    lives = record { places = loads.twenty; fine = fine_lives spec l loads; short = omega (arith, ap length loads.journal) };
     slots = omega (arith, length-map l.slots.items (λ (s : Slot). s.lives.items), ap length loads.chains, singles_long (length spec.slots.items) 0, loads.few);
     few = omega arith;
     chains = chains_are spec l loads (chains_of l.slots.items) loads.chains;
     unspent = unspent_all spec l loads;
-    joined = subst (λ js. AllJoined js (seens_of l.crowd)) (sym loads.journal) (joined_all spec l loads);
+    joined = subst (λ js. AllJoined js (seens_of l.lives)) (sym loads.journal) (joined_all spec l loads);
     rest = rest_all spec l loads (chains_of l.slots.items) loads.chains;
   }
 
@@ -277,18 +277,18 @@ module _ (spec : PageSpec) (l : Loaded) (loads : LoadsPage spec l) (host : Host)
   apart : IsApart host
   unfolding accepts
   apart = record {
-    twenty = ap (λ (c : Crowd). length c.places.items) crowd_is ∙ loads.twenty;
-    own = subst OwnCrowd (sym crowd_is) (own_fine l.crowd.shared 0 l.crowd.places.items (fine_lives spec l loads));
-    others = λ v none. subst (λ (c : Crowd). HasNothing v c.shared.store c.shared.page) (sym crowd_is)
-        (loads.others v (λ a at. sym (accepts_at spec l loads v a at) ∙ (ap (λ (c : Crowd). slice_index_or (accepts_of c.places.items) v false) (sym crowd_is) ∙ none)));
-    standing = subst (λ (c : Crowd). AreStanding c host.slots.items) (sym crowd_is) (subst (λ s. AreStanding l.crowd s.items) (sym slots_are) loads.standing);
+    twenty = ap (λ (c : Lives). length c.places.items) lives_is ∙ loads.twenty;
+    own = subst OwnLives (sym lives_is) (own_fine l.lives.shared 0 l.lives.places.items (fine_lives spec l loads));
+    others = λ v none. subst (λ (c : Lives). HasNothing v c.shared.store c.shared.page) (sym lives_is)
+        (loads.others v (λ a at. sym (accepts_at spec l loads v a at) ∙ (ap (λ (c : Lives). slice_index_or (accepts_of c.places.items) v false) (sym lives_is) ∙ none)));
+    standing = subst (λ (c : Lives). AreStanding c host.slots.items) (sym lives_is) (subst (λ s. AreStanding l.lives s.items) (sym slots_are) loads.standing);
     distinct = distinct_here;
   }
 
-  told_none : sum_of (told_of host.crowd.places.items) ≡ 0
-  told_none = none_told (told_of host.crowd.places.items) (λ v n at. untold spec l loads v n (ap (λ (c : Crowd). slice_get (told_of c.places.items) v) (sym crowd_is) ∙ at))
+  told_none : sum_of (told_of host.lives.places.items) ≡ 0
+  told_none = none_told (told_of host.lives.places.items) (λ v n at. untold spec l loads v n (ap (λ (c : Lives). slice_get (told_of c.places.items) v) (sym lives_is) ∙ at))
 
-  bound : 2 ^ 31 ≡ most_after host.given + sum_of (told_of host.crowd.places.items)
+  bound : 2 ^ 31 ≡ most_after host.given + sum_of (told_of host.lives.places.items)
   bound = omega (arith, ap most_after none_given, told_none)
 
   is_housed : IsHoused host
@@ -296,16 +296,16 @@ module _ (spec : PageSpec) (l : Loaded) (loads : LoadsPage spec l) (host : Host)
   is_housed = (
     apart,
     λ e. record {
-      slots = subst (λ n. AreHoused (16 + n) host.crowd host.slots.items) (sym no_swaps) (subst (λ (c : Crowd). AreHoused 16 c host.slots.items) (sym crowd_is) (subst (λ s. AreHoused 16 l.crowd s.items) (sym slots_are) housed));
-      room = subst (λ n. FewCrowd n host.crowd) bound (subst (FewCrowd (2 ^ 31)) (sym crowd_is) (few_lives spec l loads));
-      told = λ v n at. let z = untold spec l loads v n (ap (λ (c : Crowd). slice_get (told_of c.places.items) v) (sym crowd_is) ∙ at) in omega (arith, z);
-      raws = subst (λ (c : Crowd). HaveRaws c.shared.store c.shared.page) (sym crowd_is) loads.raws;
+      slots = subst (λ n. AreHoused (16 + n) host.lives host.slots.items) (sym no_swaps) (subst (λ (c : Lives). AreHoused 16 c host.slots.items) (sym lives_is) (subst (λ s. AreHoused 16 l.lives s.items) (sym slots_are) housed));
+      room = subst (λ n. FewLives n host.lives) bound (subst (FewLives (2 ^ 31)) (sym lives_is) (few_lives spec l loads));
+      told = λ v n at. let z = untold spec l loads v n (ap (λ (c : Lives). slice_get (told_of c.places.items) v) (sym lives_is) ∙ at) in omega (arith, z);
+      raws = subst (λ (c : Lives). HaveRaws c.shared.store c.shared.page) (sym lives_is) loads.raws;
       given = omega (arith, none_given);
       swaps = omega (arith, no_swaps);
       fuels = λ w n at. fuels_few (λ u s. loads.fuel u s) w n (ap (λ ss. slice_get (map (λ (s : Slot). s.fuel) ss.items) w) (sym slots_are) ∙ at);
       free = λ v past.
           let f = free_here spec l loads v (omega (arith, past, no_swaps, loads.few)) in
-          (ap (λ (c : Crowd). slice_index_or (accepts_of c.places.items) v false) crowd_is ∙ f.0, ap (λ (c : Crowd). slice_index_or (roots_of c.places.items) v body) crowd_is ∙ f.1, ap (λ (c : Crowd). slice_index_or (told_of c.places.items) v 0) crowd_is ∙ f.2);
+          (ap (λ (c : Lives). slice_index_or (accepts_of c.places.items) v false) lives_is ∙ f.0, ap (λ (c : Lives). slice_index_or (roots_of c.places.items) v body) lives_is ∙ f.1, ap (λ (c : Lives). slice_index_or (told_of c.places.items) v 0) lives_is ∙ f.2);
     },
   )
     where
@@ -316,12 +316,12 @@ module _ (spec : PageSpec) (l : Loaded) (loads : LoadsPage spec l) (host : Host)
           by None e g = absurd (none_some g)
           by (Some s) e g = subst (λ m. m ≤ 1000000) (some_some s.fuel n g) (few w s e)
 
-  loads_life : (w fuel : ℕ) (o : Option Content) (a : Place) → slice_get l.crowd.places.items w ≡ Some a → slice_index_or (accepts_of l.crowd.places.items) w false ≡ a.life.accepted → IsFirstLife l.crowd.shared w fuel o a → LoadsLife host w fuel o
+  loads_life : (w fuel : ℕ) (o : Option Content) (a : Place) → slice_get l.lives.places.items w ≡ Some a → slice_index_or (accepts_of l.lives.places.items) w false ≡ a.life.accepted → IsFirstLife l.lives.shared w fuel o a → LoadsLife host w fuel o
   unfolding accepts seens
-  loads_life w fuel None a at is f = ap (λ (c : Crowd). slice_index_or (accepts_of c.places.items) w false) crowd_is ∙ is ∙ f
+  loads_life w fuel None a at is f = ap (λ (c : Lives). slice_index_or (accepts_of c.places.items) w false) lives_is ∙ is ∙ f
   loads_life w fuel (Some c) a at is f = (
-    ap (λ (c : Crowd). slice_index_or (accepts_of c.places.items) w false) crowd_is ∙ is ∙ f.accepted,
-    λ s there. seen_begins spec l loads w fuel c a at f s (ap (λ (k : Crowd). slice_get (seens_of k) w) (sym crowd_is) ∙ there),
+    ap (λ (c : Lives). slice_index_or (accepts_of c.places.items) w false) lives_is ∙ is ∙ f.accepted,
+    λ s there. seen_begins spec l loads w fuel c a at f s (ap (λ (k : Lives). slice_get (seens_of k) w) (sym lives_is) ∙ there),
   )
 
   pub host_loads : Loads spec host
@@ -329,27 +329,27 @@ module _ (spec : PageSpec) (l : Loaded) (loads : LoadsPage spec l) (host : Host)
   host_loads = record {
     housed = is_housed;
     unmarked = is_unmarked;
-    twenty = ap (λ (c : Crowd). length (seens_of c)) crowd_is ∙ seens_long l.crowd.shared 0 l.crowd.places.items ∙ loads.twenty;
+    twenty = ap (λ (c : Lives). length (seens_of c)) lives_is ∙ seens_long l.lives.shared 0 l.lives.places.items ∙ loads.twenty;
     chains = are;
-    homes = λ v w at. homes_are spec l loads v w (ap (λ (c : Crowd). slice_get (homes_of c.places.items) v) (sym crowd_is) ∙ at);
+    homes = λ v w at. homes_are spec l loads v w (ap (λ (c : Lives). slice_get (homes_of c.places.items) v) (sym lives_is) ∙ at);
     slots = λ w s at. let r = slot_loads spec l loads w s at in loads_life w s.fuel (content_of spec.libs.items s.content) r.0 r.1 r.2 r.3;
-    none_else = λ v le. ap (λ (c : Crowd). slice_index_or (accepts_of c.places.items) v false) crowd_is ∙ (free_here spec l loads v le).0;
+    none_else = λ v le. ap (λ (c : Lives). slice_index_or (accepts_of c.places.items) v false) lives_is ∙ (free_here spec l loads v le).0;
     scripts = λ w s at. let r = slot_loads spec l loads w s at in
-        subst (HasScripts spec.libs.items s.content) (sym (ap (λ (c : Crowd). scripts_by w (codes_of c.places.items)) crowd_is ∙ scripts_at l.crowd.places.items w r.0 r.1)) (loads.scripts w s r.0 at r.1);
+        subst (HasScripts spec.libs.items s.content) (sym (ap (λ (c : Lives). scripts_by w (codes_of c.places.items)) lives_is ∙ scripts_at l.lives.places.items w r.0 r.1)) (loads.scripts w s r.0 at r.1);
     channels = ap (λ c. c.items) pairs ∙ loads.channels;
     libraries = ap (λ c. map tree_in c.items) libs_are ∙ loads.libs;
     apart = distinct_here;
     names = ap (λ s. map (λ (x : Slot). x.name) s.items) slots_are ∙ loads.names;
     fuels = ap (λ s. map (λ (x : Slot). x.fuel) s.items) slots_are ∙ loads.fuels;
-    told = λ v n at. untold spec l loads v n (ap (λ (c : Crowd). slice_get (told_of c.places.items) v) (sym crowd_is) ∙ at);
+    told = λ v n at. untold spec l loads v n (ap (λ (c : Lives). slice_get (told_of c.places.items) v) (sym lives_is) ∙ at);
     given = none_given;
-    unspent = subst (λ (c : Crowd). Unspent 0 (seens_of c)) (sym crowd_is) (unspent_here spec l loads);
+    unspent = subst (λ (c : Lives). Unspent 0 (seens_of c)) (sym lives_is) (unspent_here spec l loads);
     ends = fresh;
-    journal = ap (λ (c : Crowd). c.journal.items) crowd_is ∙ loads.journal;
+    journal = ap (λ (c : Lives). c.journal.items) lives_is ∙ loads.journal;
     laid = (
       sym (ap (λ s. map (λ (x : Slot). x.name) s.items) slots_are ∙ loads.names),
       subst (λ n. HavePlaces n (map piece_of spec.pieces.items)) (sym (length-map spec.slots.items (λ (s : SlotSpec). s.name))) loads.places,
-      subst (λ (c : Crowd). IsLaidBy c.shared.page (spots_of c host.slots.items) (map piece_of spec.pieces.items)) (sym crowd_is)
-          (subst (λ s. IsLaidBy l.crowd.shared.page (spots_of l.crowd s.items) (map piece_of spec.pieces.items)) (sym slots_are) loads.laid),
+      subst (λ (c : Lives). IsLaidBy c.shared.page (spots_of c host.slots.items) (map piece_of spec.pieces.items)) (sym lives_is)
+          (subst (λ s. IsLaidBy l.lives.shared.page (spots_of l.lives s.items) (map piece_of spec.pieces.items)) (sym slots_are) loads.laid),
     );
   }

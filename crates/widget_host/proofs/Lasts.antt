@@ -5,7 +5,7 @@ use Rattle.std.specs.List.{list_any}
 use Rattle.slot_laws.specs.Slots.{Each, has}
 use Rattle.slot_laws.specs.Chains.{Chains, IsChain, last_at, last_from, last_life, listed}
 use Rattle.slot_picks.specs.declared.slots.Slot.{Slot}
-use Rattle.slot_picks.specs.Crowds.{chains_of}
+use Rattle.slot_picks.specs.Lives.{chains_of}
 use Rattle.widget_host.specs.declared.items.HostItem.{HostItem}
 use Rattle.widget_host.specs.declared.items.HostItem.TheVariants as host
 use Rattle.widget_host.specs.Housed.{IsItem, is_for}

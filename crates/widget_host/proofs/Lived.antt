@@ -22,7 +22,7 @@ use Rattle.slot_laws.specs.Chains.{Chains, IsChain, joins, last_at, last_from, l
 use Rattle.slot_rounds.specs.Feeding as feeding
 use Rattle.slot_rounds.specs.Feeding.{IsLastFed, IsLastShown, is_last}
 use Rattle.page_load.specs.Loads.{singles}
-use Rattle.slot_picks.specs.declared.crowd.Place.{Place}
+use Rattle.slot_picks.specs.declared.lives.Place.{Place}
 use Rattle.slot_picks.specs.Places.{homes_of, seen_at, seens_from}
 use Rattle.turn_returns.specs.declared.turn.Shared.{Shared}
 use Rattle.widget_meaning.specs.Alone.{Content, loaded}
@@ -61,14 +61,14 @@ seen_there h v (suc k) (x ∷ ls) l at = seen_there h (v + 1) k ls l at
 -- something is seen of an accepted life
 pub seen_accepts : (h : Host) (v : ℕ) → accepts h v ≡ true → (s : Seen) × (slice_get (seens h) v ≡ Some s)
 unfolding accepts seens
-seen_accepts h v is = let l = life_accepted h.crowd.places.items v is in seen_there h.crowd.shared 0 v h.crowd.places.items l.0 l.1
+seen_accepts h v is = let l = life_accepted h.lives.places.items v is in seen_there h.lives.shared 0 v h.lives.places.items l.0 l.1
 
 -- and it is known how many of its posts were taken
 told_accepts : (h : Host) (v : ℕ) → accepts h v ≡ true → (n : ℕ) × (slice_get (told h) v ≡ Some n)
 unfolding accepts told
 told_accepts h v is =
-    let l = life_accepted h.crowd.places.items v is in
-    (l.0.told, slice_get-map (λ (p : Place). p.told) h.crowd.places.items v ∙ ap (option_map (λ (p : Place). p.told)) l.1)
+    let l = life_accepted h.lives.places.items v is in
+    (l.0.told, slice_get-map (λ (p : Place). p.told) h.lives.places.items v ∙ ap (option_map (λ (p : Place). p.told)) l.1)
 
 -- a life that shows what it was given
 life_shown : (h : Host) (v : ℕ) (f : Option Fed) → IsLastShown (accepts h) (seens h) v f → IsShown h v (option_map state f)
@@ -209,7 +209,7 @@ dues_at h i k (suc v) w (s ∷ ss) (u ∷ ts) t is e at = dues_at h i (k + 1) v 
     tail x y xs ys f = cc
 
 module _ (i : HostItem) (old new : Host) (whole : IsWhole old) (shape : IsItem i (length (chains old))) (gives : GivesItem i old new) where
-  chains_old : Chains (homes_of old.crowd.places.items) (newborn old) 0 (chains old)
+  chains_old : Chains (homes_of old.lives.places.items) (newborn old) 0 (chains old)
   unfolding chains
   chains_old = whole.slots.chains
 
@@ -223,7 +223,7 @@ module _ (i : HostItem) (old new : Host) (whole : IsWhole old) (shape : IsItem i
       subst (λ (k : HostItem). (if reaches old k (last_life c) then item (due s) (item_of k) else due s) ≡ state (with_items (gives_to k w) f)) is
       (state_given (nat_eq to w) (reaches old (host.Event to e) (last_life c)) (item_of (host.Event to e)) s f
       (ap (λ b. b && nat_eq (last_at to (chains old)) (last_life c)) accepted
-      ∙ for_slot (homes_of old.crowd.places.items) (newborn old) to w (chains old) c chains_old (subst (λ (k : HostItem). IsItem k (length (chains old))) (sym is) shape) at) comes)
+      ∙ for_slot (homes_of old.lives.places.items) (newborn old) to w (chains old) c chains_old (subst (λ (k : HostItem). IsItem k (length (chains old))) (sym is) shape) at) comes)
   life_gives (host.Advance ms) is w c f s at accepted comes =
       subst (λ (k : HostItem). (if reaches old k (last_life c) then item (due s) (item_of k) else due s) ≡ state (with_items (gives_to k w) f)) is
       (state_given true (reaches old (host.Advance ms) (last_life c)) (item_of (host.Advance ms)) s f
@@ -334,13 +334,13 @@ module _ (to : ℕ) (content : SlotContent) (old new : Host) (apart : IsApart ol
   abbrev n : ℕ
   n = newborn old
 
-  chains_here : Chains (homes_of old.crowd.places.items) n 0 (chains old)
+  chains_here : Chains (homes_of old.lives.places.items) n 0 (chains old)
   unfolding chains
   chains_here = whole.slots.chains
 
   told_long : length (told old) ≡ 20
   unfolding told
-  told_long = length-map old.crowd.places.items (λ (p : Place). p.told) ∙ apart.twenty
+  told_long = length-map old.lives.places.items (λ (p : Place). p.told) ∙ apart.twenty
 
   one_more : newborn new ≡ n + 1
   one_more = let e : swaps new ≡ swaps old + 1 = ap length gives.life.ends ∙ length-append (ends old) (last_at to (chains old) ∷ []) in omega (arith, e)
@@ -366,17 +366,17 @@ module _ (to : ℕ) (content : SlotContent) (old new : Host) (apart : IsApart ol
   new_fed : IsLastFed (accepts new) (seens new) (told new) n life
   new_fed = life_begins new n (slice_index_or (fuels old) to 0) (content_in (libraries old) content) gives.life.life none_told
 
-  past_swap : (k : ℕ) (cs : List (List ℕ)) (fs : List (Option Fed)) → to < k → Chains (homes_of old.crowd.places.items) n k cs → feeding.AreFed (accepts old) (seens old) (told old) cs fs
+  past_swap : (k : ℕ) (cs : List (List ℕ)) (fs : List (Option Fed)) → to < k → Chains (homes_of old.lives.places.items) n k cs → feeding.AreFed (accepts old) (seens old) (told old) cs fs
       → feeding.AreFed (accepts new) (seens new) (told new) cs (with_swap to life k fs)
   past_swap k [] [] past h fed = tt
   past_swap k [] (f ∷ fs) past h fed = absurd fed
   past_swap k (c ∷ cs) [] past h fed = absurd fed
   past_swap k (c ∷ cs) (f ∷ fs) past h fed = (
-    subst (λ b. IsLastFed (accepts new) (seens new) (told new) (last_life c) (if b then life else f)) (sym (ne_eqb to k (λ e. absurd (omega (arith, past, e))))) (other_fed (last_life c) f (last_born (homes_of old.crowd.places.items) n k c h.0) fed.0),
+    subst (λ b. IsLastFed (accepts new) (seens new) (told new) (last_life c) (if b then life else f)) (sym (ne_eqb to k (λ e. absurd (omega (arith, past, e))))) (other_fed (last_life c) f (last_born (homes_of old.lives.places.items) n k c h.0) fed.0),
     past_swap (k + 1) cs fs (omega (arith, past)) h.1 fed.1,
   )
 
-  swap_each : (k j : ℕ) (cs : List (List ℕ)) (fs : List (Option Fed)) → to ≡ k + j → Chains (homes_of old.crowd.places.items) n k cs → feeding.AreFed (accepts old) (seens old) (told old) cs fs
+  swap_each : (k j : ℕ) (cs : List (List ℕ)) (fs : List (Option Fed)) → to ≡ k + j → Chains (homes_of old.lives.places.items) n k cs → feeding.AreFed (accepts old) (seens old) (told old) cs fs
       → feeding.AreFed (accepts new) (seens new) (told new) (on_at j (joins n) cs) (with_swap to life k fs)
   swap_each k j [] [] is h fed = tt
   swap_each k j [] (f ∷ fs) is h fed = absurd fed
@@ -387,7 +387,7 @@ module _ (to : ℕ) (content : SlotContent) (old new : Host) (apart : IsApart ol
     past_swap (k + 1) cs fs (omega (arith, is)) h.1 fed.1,
   )
   swap_each k (suc j) (c ∷ cs) (f ∷ fs) is h fed = (
-    subst (λ b. IsLastFed (accepts new) (seens new) (told new) (last_life c) (if b then life else f)) (sym (ne_eqb to k (λ e. absurd (omega (arith, is, e))))) (other_fed (last_life c) f (last_born (homes_of old.crowd.places.items) n k c h.0) fed.0),
+    subst (λ b. IsLastFed (accepts new) (seens new) (told new) (last_life c) (if b then life else f)) (sym (ne_eqb to k (λ e. absurd (omega (arith, is, e))))) (other_fed (last_life c) f (last_born (homes_of old.lives.places.items) n k c h.0) fed.0),
     swap_each (k + 1) j cs fs (omega (arith, is)) h.1 fed.1,
   )
 
@@ -409,10 +409,10 @@ module _ (to : ℕ) (content : SlotContent) (old new : Host) (apart : IsApart ol
   now_ended : (fs : List (Option Fed)) → AreFed old fs → IsEnded new (last_at to (chains old)) (fed_at fs to)
   now_ended fs fed =
       let v = last_at to (chains old) in
-      let here = last_at_there (homes_of old.crowd.places.items) n to (chains old) chains_here lt in
+      let here = last_at_there (homes_of old.lives.places.items) n to (chains old) chains_here lt in
       record {
         born = let e = one_more in omega (arith, e, here.1);
-        out = ap (is_last v) gives.life.chains ∙ out_joined (homes_of old.crowd.places.items) n 0 to v n to (chains old) chains_here here.0 (omega arith) (λ e. absurd (omega (arith, here.1, e)));
+        out = ap (is_last v) gives.life.chains ∙ out_joined (homes_of old.lives.places.items) n 0 to v n to (chains old) chains_here here.0 (omega arith) (λ e. absurd (omega (arith, here.1, e)));
         fed = other_fed v (fed_at fs to) here.1 (fed_of_slot old to (chains old) fs lt fed);
       }
 

@@ -13,9 +13,9 @@ use Rattle.page_tree.specs.Pages.{nodes}
 use Rattle.slot_laws.specs.Chains.{IsChain}
 use Rattle.slot_laws.specs.Slots.{Each}
 use Rattle.widget_meaning.specs.OwnState.{OwnState}
-use Rattle.slot_picks.specs.declared.crowd.Place.{Place}
+use Rattle.slot_picks.specs.declared.lives.Place.{Place}
 use Rattle.slot_picks.specs.declared.slots.Slot.{Slot}
-use Rattle.slot_picks.specs.Crowds.{chains_of, present_of}
+use Rattle.slot_picks.specs.Lives.{chains_of, present_of}
 use Rattle.slot_picks.specs.Places.{homes_of, is_accepted, roots_of}
 use Rattle.widget_host.specs.declared.host.Host.{Host}
 use Rattle.widget_host.specs.Housed.{AreShown, IsApart, IsLaid, chains, names, rooted}
@@ -54,10 +54,10 @@ module _ (h : Host) (apart : IsApart h) (w : ℕ) (s : Slot) (there : w < length
   slot_here : slice_get h.slots.items w ≡ Some s
   slot_here = slice_get_read h.slots.items (length h.slots.items) w s refl slot_in is
 
-  chain_here : IsChain (homes_of h.crowd.places.items) apart.standing.born w s.lives.items
+  chain_here : IsChain (homes_of h.lives.places.items) apart.standing.born w s.lives.items
   chain_here =
       let none : 0 + w ≡ w = omega arith in
-      subst (λ n. IsChain (homes_of h.crowd.places.items) apart.standing.born n s.lives.items) none (slot_chain (homes_of h.crowd.places.items) apart.standing.born 0 w h.slots.items s slot_here apart.standing.chains)
+      subst (λ n. IsChain (homes_of h.lives.places.items) apart.standing.born n s.lives.items) none (slot_chain (homes_of h.lives.places.items) apart.standing.born 0 w h.slots.items s slot_here apart.standing.chains)
 
   -- it has a present life
   pub some_here : 0 < length s.lives.items
@@ -68,12 +68,12 @@ module _ (h : Host) (apart : IsApart h) (w : ℕ) (s : Slot) (there : w < length
     born_here = first_each (λ u. u < apart.standing.born) v s.lives.items first chain_here.below
 
     -- which is there
-    pub life_here : v < length h.crowd.places.items
+    pub life_here : v < length h.lives.places.items
     life_here = omega (arith, born_here, apart.standing.few)
 
-    module _ (a : Place) (are : a ≡ get_or h.crowd.places.items v a) where
-      place_here : slice_get h.crowd.places.items v ≡ Some a
-      place_here = slice_get_read h.crowd.places.items (length h.crowd.places.items) v a refl life_here are
+    module _ (a : Place) (are : a ≡ get_or h.lives.places.items v a) where
+      place_here : slice_get h.lives.places.items v ≡ Some a
+      place_here = slice_get_read h.lives.places.items (length h.lives.places.items) v a refl life_here are
 
       present_here : slice_get (map present_of (chains_of h.slots.items)) w ≡ Some v
       present_here =
@@ -82,28 +82,28 @@ module _ (h : Host) (apart : IsApart h) (w : ℕ) (s : Slot) (there : w < length
           ∙ ap Some (first_present v s.lives.items first)
 
       -- its node is one of the page
-      pub node_here : a.root < length (nodes h.crowd.shared.page)
+      pub node_here : a.root < length (nodes h.lives.shared.page)
       node_here = (apart.standing.stand w v a present_here place_here).is_in
 
-      lot_here : IsLot h.crowd.shared.page (lot_of s.name (if is_accepted h.crowd.places.items v then Some v else None)) a.root
+      lot_here : IsLot h.lives.shared.page (lot_of s.name (if is_accepted h.lives.places.items v then Some v else None)) a.root
       lot_here =
-          let node : slice_index_or (roots_of h.crowd.places.items) v body ≡ a.root = get_or_from_slice_get (roots_of h.crowd.places.items) v a.root body (slice_get-map (λ (p : Place). p.root) h.crowd.places.items v ∙ ap (option_map (λ (p : Place). p.root)) place_here) in
+          let node : slice_index_or (roots_of h.lives.places.items) v body ≡ a.root = get_or_from_slice_get (roots_of h.lives.places.items) v a.root body (slice_get-map (λ (p : Place). p.root) h.lives.places.items v ∙ ap (option_map (λ (p : Place). p.root)) place_here) in
           let most : apart.standing.born ≤ 32 = omega (arith, apart.standing.few, apart.twenty) in
-          subst (IsLot h.crowd.shared.page (lot_of s.name (if is_accepted h.crowd.places.items v then Some v else None))) node
-          (subst (λ u. IsLot h.crowd.shared.page (lot_of s.name (if is_accepted h.crowd.places.items u then Some u else None)) (slice_index_or (roots_of h.crowd.places.items) u body)) (first_present v s.lives.items first)
-          (slot_lot h.crowd h.slots.items apart.standing w s slot_here chain_here most))
+          subst (IsLot h.lives.shared.page (lot_of s.name (if is_accepted h.lives.places.items v then Some v else None))) node
+          (subst (λ u. IsLot h.lives.shared.page (lot_of s.name (if is_accepted h.lives.places.items u then Some u else None)) (slice_index_or (roots_of h.lives.places.items) u body)) (first_present v s.lives.items first)
+          (slot_lot h.lives h.slots.items apart.standing w s slot_here chain_here most))
 
-      home_here : slice_get (rooted (is_accepted h.crowd.places.items) (chains_of h.slots.items)) w ≡ Some (if is_accepted h.crowd.places.items v then Some v else None)
+      home_here : slice_get (rooted (is_accepted h.lives.places.items) (chains_of h.slots.items)) w ≡ Some (if is_accepted h.lives.places.items v then Some v else None)
       home_here =
-          slice_get-map (λ c. if is_accepted h.crowd.places.items (present_of c) then Some (present_of c) else None) (chains_of h.slots.items) w
-          ∙ ap (option_map (λ c. if is_accepted h.crowd.places.items (present_of c) then Some (present_of c) else None)) (slice_get-map (λ (x : Slot). x.lives.items) h.slots.items w ∙ ap (option_map (λ (x : Slot). x.lives.items)) slot_here)
-          ∙ ap (λ u. Some (if is_accepted h.crowd.places.items u then Some u else None)) (first_present v s.lives.items first)
+          slice_get-map (λ c. if is_accepted h.lives.places.items (present_of c) then Some (present_of c) else None) (chains_of h.slots.items) w
+          ∙ ap (option_map (λ c. if is_accepted h.lives.places.items (present_of c) then Some (present_of c) else None)) (slice_get-map (λ (x : Slot). x.lives.items) h.slots.items w ∙ ap (option_map (λ (x : Slot). x.lives.items)) slot_here)
+          ∙ ap (λ u. Some (if is_accepted h.lives.places.items u then Some u else None)) (first_present v s.lives.items first)
 
       -- what stands at this node is what the slot shows
-      pub shown_here : (P : PlainTrees → Type 0) → ((name : List ℕ) (home : Option ℕ) (end : Option OwnState) → IsLot h.crowd.shared.page (lot_of name home) a.root → IsEnd h.crowd.shared.page home end → P (root_of name end))
+      pub shown_here : (P : PlainTrees → Type 0) → ((name : List ℕ) (home : Option ℕ) (end : Option OwnState) → IsLot h.lives.shared.page (lot_of name home) a.root → IsEnd h.lives.shared.page home end → P (root_of name end))
           → (xs : List (List ℕ)) (pieces : List PagePiece) (ends : List (Option OwnState)) → IsLaid h xs pieces → AreShown h (chains h) ends → P (slice_index_or (roots xs ends) w End)
       unfolding IsLaid names chains
       shown_here P holds xs pieces ends laid shown =
           let named : slice_get xs w ≡ Some s.name = ap (λ ns. slice_get ns w) laid.0 ∙ slice_get-map (λ (x : Slot). x.name) h.slots.items w ∙ ap (option_map (λ (x : Slot). x.name)) slot_here in
-          let r = root_at h.crowd.shared.page xs (rooted (is_accepted h.crowd.places.items) (chains_of h.slots.items)) ends w s.name (if is_accepted h.crowd.places.items v then Some v else None) (ends_shown h (chains_of h.slots.items) ends shown) named home_here in
-          subst P r.2 (holds s.name (if is_accepted h.crowd.places.items v then Some v else None) r.0 lot_here r.1)
+          let r = root_at h.lives.shared.page xs (rooted (is_accepted h.lives.places.items) (chains_of h.slots.items)) ends w s.name (if is_accepted h.lives.places.items v then Some v else None) (ends_shown h (chains_of h.slots.items) ends shown) named home_here in
+          subst P r.2 (holds s.name (if is_accepted h.lives.places.items v then Some v else None) r.0 lot_here r.1)

@@ -16,7 +16,7 @@ use Rattle.native_image.specs.Sound.{HasRaw}
 use Rattle.js_image.specs.Held.{IsConfined}
 use Rattle.life_laws.specs.Life.{Going, Seen, image, shown}
 use Rattle.turn_returns.specs.declared.turn.Shared.{Shared}
-use Rattle.slot_picks.specs.declared.crowd.Place.{Place}
+use Rattle.slot_picks.specs.declared.lives.Place.{Place}
 use Rattle.turn_returns.specs.declared.turn.Turn.{Turn}
 use Rattle.life_queue.specs.Fine.{FineTurn}
 use Rattle.life_queue.specs.Lives.{going_of, life_seen, own_of, trees_in}
@@ -100,43 +100,43 @@ none_behind (l ∷ ls) (suc v) le = none_behind ls v (omega (arith, le))
 
 module _ (h : Host) where
   -- the trees of a life
-  trees_at : (v : ℕ) (l : Place) → slice_get h.crowd.places.items v ≡ Some l → trees_of l.codes.items ≡ own_trees h v
+  trees_at : (v : ℕ) (l : Place) → slice_get h.lives.places.items v ≡ Some l → trees_of l.codes.items ≡ own_trees h v
   unfolding scripts
-  trees_at v l at = sym (ap (map trees) (scripts_at h.crowd.places.items v l at) ∙ trees_each l.codes.items)
+  trees_at v l at = sym (ap (map trees) (scripts_at h.lives.places.items v l at) ∙ trees_each l.codes.items)
 
-  pub read_off : (v : ℕ) (s : Seen) → accepts h v ≡ true → slice_get (seens h) v ≡ Some s → IsReadOff (own_trees h v) h.crowd.shared v (image s)
+  pub read_off : (v : ℕ) (s : Seen) → accepts h v ≡ true → slice_get (seens h) v ≡ Some s → IsReadOff (own_trees h v) h.lives.shared v (image s)
   unfolding accepts seens
   read_off v s is at =
-      let r = life_at h.crowd.shared 0 v h.crowd.places.items s at in
-      subst (λ fs. IsReadOff fs h.crowd.shared v (image s)) (trees_at v r.0 r.1)
-      (subst (λ (t : Seen). IsReadOff (trees_of r.0.codes.items) h.crowd.shared v (image t)) (sym (seen_of_life h.crowd.shared v h.crowd.places.items r.0 s r.1 is at)) (read_life h.crowd.shared v r.0))
+      let r = life_at h.lives.shared 0 v h.lives.places.items s at in
+      subst (λ fs. IsReadOff fs h.lives.shared v (image s)) (trees_at v r.0 r.1)
+      (subst (λ (t : Seen). IsReadOff (trees_of r.0.codes.items) h.lives.shared v (image t)) (sym (seen_of_life h.lives.shared v h.lives.places.items r.0 s r.1 is at)) (read_life h.lives.shared v r.0))
 
   -- ## What each holds
 
   module _ (housed : IsHoused h) where
-    pub holds_own : (v : ℕ) (l : Place) → slice_get h.crowd.places.items v ≡ Some l → l.life.accepted ≡ true → HoldsItsOwn h.crowd.shared v l
+    pub holds_own : (v : ℕ) (l : Place) → slice_get h.lives.places.items v ≡ Some l → l.life.accepted ≡ true → HoldsItsOwn h.lives.shared v l
     unfolding IsHoused
-    holds_own v l at is = own_at h.crowd.shared 0 v v h.crowd.places.items l (omega arith) at housed.0.own is
+    holds_own v l at is = own_at h.lives.shared 0 v v h.lives.places.items l (omega arith) at housed.0.own is
 
-    holds_accepted : (v : ℕ) → accepts h v ≡ true → (l : Place) × (slice_get h.crowd.places.items v ≡ Some l) × HoldsItsOwn h.crowd.shared v l
+    holds_accepted : (v : ℕ) → accepts h v ≡ true → (l : Place) × (slice_get h.lives.places.items v ≡ Some l) × HoldsItsOwn h.lives.shared v l
     unfolding accepts
-    holds_accepted v is = let r = life_accepted h.crowd.places.items v is in (r.0, r.1, holds_own v r.0 r.1 r.2)
+    holds_accepted v is = let r = life_accepted h.lives.places.items v is in (r.0, r.1, holds_own v r.0 r.1 r.2)
 
-    pub confined_at : (v : ℕ) → accepts h v ≡ true → IsConfined (own_trees h v) v h.crowd.shared.store
-    confined_at v is = let r = holds_accepted v is in subst (λ fs. IsConfined fs v h.crowd.shared.store) (trees_at v r.0 r.1) r.2.confined
+    pub confined_at : (v : ℕ) → accepts h v ≡ true → IsConfined (own_trees h v) v h.lives.shared.store
+    confined_at v is = let r = holds_accepted v is in subst (λ fs. IsConfined fs v h.lives.shared.store) (trees_at v r.0 r.1) r.2.confined
 
-    pub root_at : (v : ℕ) → accepts h v ≡ true → HasRoot h.crowd.shared.page v
+    pub root_at : (v : ℕ) → accepts h v ≡ true → HasRoot h.lives.shared.page v
     root_at v is = (holds_accepted v is).2.holds.home
 
     -- the cells are the host's and those of its lives
-    pub counted_at : length h.crowd.shared.store.cells ≡ cells_of_host h.crowd.shared.store + cells_of_widgets h.crowd.shared.store (length h.crowd.places.items)
+    pub counted_at : length h.lives.shared.store.cells ≡ cells_of_host h.lives.shared.store + cells_of_widgets h.lives.shared.store (length h.lives.places.items)
     unfolding IsHoused accepts
-    counted_at = cells_counted h.crowd.shared.store (length h.crowd.places.items) (λ v le. (housed.0.others v (none_behind h.crowd.places.items v le)).cells)
+    counted_at = cells_counted h.lives.shared.store (length h.lives.places.items) (λ v le. (housed.0.others v (none_behind h.lives.places.items v le)).cells)
 
 -- a turn has no more fuel left than it was granted
-pub grant_kept : (h : Host) → IsWhole h → (v : ℕ) (l : Place) → slice_get h.crowd.places.items v ≡ Some l → l.life.accepted ≡ true → IfSome l.life.turn (λ t. t.left ≤ l.life.grant)
-grant_kept h whole v l at is = left_few l.life.turn (fine_at h.crowd.shared 0 v v h.crowd.places.items l (omega arith) at whole.slots.crowd.fine is).turn
+pub grant_kept : (h : Host) → IsWhole h → (v : ℕ) (l : Place) → slice_get h.lives.places.items v ≡ Some l → l.life.accepted ≡ true → IfSome l.life.turn (λ t. t.left ≤ l.life.grant)
+grant_kept h whole v l at is = left_few l.life.turn (fine_at h.lives.shared 0 v v h.lives.places.items l (omega arith) at whole.slots.lives.fine is).turn
   where
-    left_few : (o : Option Turn) → IfSome o (FineTurn (trees_in (lent h.crowd.shared l)) v h.crowd.shared.store h.crowd.shared.page l.life.grant) → IfSome o (λ t. t.left ≤ l.life.grant)
+    left_few : (o : Option Turn) → IfSome o (FineTurn (trees_in (lent h.lives.shared l)) v h.lives.shared.store h.lives.shared.page l.life.grant) → IfSome o (λ t. t.left ≤ l.life.grant)
     left_few None f = tt
     left_few (Some t) f = f.left

@@ -11,15 +11,15 @@ use Rattle.page_build.specs.Layout.{IsLot, lot_of}
 use Rattle.page_build.specs.Standing.{AreSpots, IsSpare, IsStanding, PagePasses}
 use Rattle.page_build.proofs.Passing.{pages_here}
 use Rattle.turn_returns.specs.declared.turn.Shared.{Shared}
-use Rattle.slot_picks.specs.declared.crowd.Crowd.{Crowd}
-use Rattle.slot_picks.specs.declared.crowd.Place.{Place}
+use Rattle.slot_picks.specs.declared.lives.Lives.{Lives}
+use Rattle.slot_picks.specs.declared.lives.Place.{Place}
 use Rattle.slot_picks.specs.declared.slots.Slot.{Slot}
-use Rattle.slot_picks.specs.Crowds.{AreStanding, KeepsLives, KeepsSlots, chains_of, present_of, spots_of}
+use Rattle.slot_picks.specs.Lives.{AreStanding, KeepsLives, KeepsSlots, chains_of, present_of, spots_of}
 use Rattle.slot_picks.specs.Places.{OwnPlaces, told_of}
 use Rattle.slot_rounds.specs.Posting.{AreAlike}
 use Rattle.widget_host.proofs.Alike.{accepts_alike, codes_alike, homes_alike, own_alike, roots_alike, was_at}
 
-module _ (c d : Crowd) (all : d.shared ≡ c.shared) (same : AreAlike c.places.items d.places.items) where
+module _ (c d : Lives) (all : d.shared ≡ c.shared) (same : AreAlike c.places.items d.places.items) where
   lives_same : told_of d.places.items ≡ told_of c.places.items → KeepsLives c d
   lives_same told = record {
     homes = homes_alike c.places.items d.places.items same;

@@ -8,11 +8,11 @@ use Rattle.page_image.specs.Image.{forest}
 use Rattle.life_laws.specs.Life.{Going, Seen, image, shown}
 use Rattle.widget_meaning.specs.OwnState.{OwnState}
 use Rattle.turn_returns.specs.declared.turn.Shared.{Shared}
-use Rattle.slot_picks.specs.declared.crowd.Crowd.{Crowd}
-use Rattle.slot_picks.specs.declared.crowd.Place.{Place}
+use Rattle.slot_picks.specs.declared.lives.Lives.{Lives}
+use Rattle.slot_picks.specs.declared.lives.Place.{Place}
 use Rattle.life_queue.specs.Lives.{going_of, life_seen, own_of}
 use Rattle.slot_picks.specs.declared.slots.Slot.{Slot}
-use Rattle.slot_picks.specs.Crowds.{chains_of, present_of, seens_of}
+use Rattle.slot_picks.specs.Lives.{chains_of, present_of, seens_of}
 use Rattle.slot_laws.specs.Chains.{IsChain}
 use Rattle.slot_picks.specs.Places.{FinePlace, FinePlaces, OwnPlace, OwnPlaces, accepts_of, homes_of, is_accepted, lent, seen_at, seens_from}
 use Rattle.widget_host.specs.declared.host.Host.{Host}
@@ -78,25 +78,25 @@ life_forest : (h : Shared) (w : ℕ) (l : Place) → (image (life_seen (lent h l
 life_forest h w l = shown_forest (option_map (going_of (lent h l) w l.life) l.life.turn) (own_of (lent h l) w l.life)
 
 module _ (h : Host) where
-  one_end : (w : ℕ) (own : OwnState) → IsShown h w (Some own) → own.forest ≡ forest h.crowd.shared.page w
+  one_end : (w : ℕ) (own : OwnState) → IsShown h w (Some own) → own.forest ≡ forest h.lives.shared.page w
   unfolding accepts seens
   one_end w own is =
       let s = is.1.0 in
-      let r = life_at h.crowd.shared 0 w h.crowd.places.items s is.1.1 in
-      ap (λ (o : OwnState). o.forest) (sym is.1.2) ∙ ap (λ (t : Seen). (image t).forest) (seen_of_life h.crowd.shared w h.crowd.places.items r.0 s r.1 is.0 is.1.1) ∙ life_forest h.crowd.shared w r.0
+      let r = life_at h.lives.shared 0 w h.lives.places.items s is.1.1 in
+      ap (λ (o : OwnState). o.forest) (sym is.1.2) ∙ ap (λ (t : Seen). (image t).forest) (seen_of_life h.lives.shared w h.lives.places.items r.0 s r.1 is.0 is.1.1) ∙ life_forest h.lives.shared w r.0
 
   -- the slots that are shown have the trees of the page
   pub ends_shown : (cs : List (List ℕ)) (ends : List (Option OwnState)) → AreShown h cs ends
-      → AreEnds h.crowd.shared.page (rooted (is_accepted h.crowd.places.items) cs) ends
+      → AreEnds h.lives.shared.page (rooted (is_accepted h.lives.places.items) cs) ends
   unfolding accepts
   ends_shown [] [] is = tt
   ends_shown [] (o ∷ ends) is = absurd is
   ends_shown (c ∷ cs) [] is = absurd is
   ends_shown (c ∷ cs) (None ∷ ends) is =
-      subst (λ (b : Bool). AreEnds h.crowd.shared.page ((if b then Some (present_of c) else None) ∷ rooted (is_accepted h.crowd.places.items) cs) (None ∷ ends)) (sym is.0)
+      subst (λ (b : Bool). AreEnds h.lives.shared.page ((if b then Some (present_of c) else None) ∷ rooted (is_accepted h.lives.places.items) cs) (None ∷ ends)) (sym is.0)
       (tt, ends_shown cs ends is.1)
   ends_shown (c ∷ cs) (Some own ∷ ends) is =
-      subst (λ (b : Bool). AreEnds h.crowd.shared.page ((if b then Some (present_of c) else None) ∷ rooted (is_accepted h.crowd.places.items) cs) (Some own ∷ ends)) (sym is.0.0)
+      subst (λ (b : Bool). AreEnds h.lives.shared.page ((if b then Some (present_of c) else None) ∷ rooted (is_accepted h.lives.places.items) cs) (Some own ∷ ends)) (sym is.0.0)
       (one_end (present_of c) own is.0, ends_shown cs ends is.1)
 
 -- the present life of a slot
@@ -124,8 +124,8 @@ module _ (h : Host) (w : ℕ) (s : Slot) (whole : IsWhole h) (there : w < length
   slot_at : slice_get h.slots.items w ≡ Some s
   slot_at = slice_get_read h.slots.items (length h.slots.items) w s refl slot_there is
 
-  chain_of : IsChain (homes_of h.crowd.places.items) (16 + swaps h) (0 + w) s.lives.items
-  chain_of = slot_chain (homes_of h.crowd.places.items) (16 + swaps h) 0 w h.slots.items s slot_at whole.slots.chains
+  chain_of : IsChain (homes_of h.lives.places.items) (16 + swaps h) (0 + w) s.lives.items
+  chain_of = slot_chain (homes_of h.lives.places.items) (16 + swaps h) 0 w h.slots.items s slot_at whole.slots.chains
 
   pub some_lives : 0 < length s.lives.items
   some_lives = chain_of.some
@@ -136,7 +136,7 @@ module _ (h : Host) (w : ℕ) (s : Slot) (whole : IsWhole h) (there : w < length
 
 -- ## The line of a life
 
-module _ (c : Crowd) (v : ℕ) (is : is_accepted c.places.items v ≡ true) where
+module _ (c : Lives) (v : ℕ) (is : is_accepted c.places.items v ≡ true) where
   pub life_there : v < length c.places.items
   life_there = let r = life_accepted c.places.items v is in within c.places.items v r.0 r.1
 

@@ -18,10 +18,10 @@ use Rattle.page_build.specs.Layout as layout
 use Rattle.page_build.specs.Standing.{AreLotsOf}
 use Rattle.page_build.proofs.Pieces.{laid_by}
 use Rattle.page_plan.specs.Pages.{PagePiece}
-use Rattle.slot_picks.specs.declared.crowd.Crowd.{Crowd}
-use Rattle.slot_picks.specs.declared.crowd.Place.{Place}
+use Rattle.slot_picks.specs.declared.lives.Lives.{Lives}
+use Rattle.slot_picks.specs.declared.lives.Place.{Place}
 use Rattle.slot_picks.specs.declared.slots.Slot.{Slot}
-use Rattle.slot_picks.specs.Crowds.{AreStanding, chains_of, is_present, present_of, spots_of}
+use Rattle.slot_picks.specs.Lives.{AreStanding, chains_of, is_present, present_of, spots_of}
 use Rattle.slot_picks.specs.Places.{homes_of, is_accepted, roots_of}
 use Rattle.widget_host.specs.declared.host.Host.{Host}
 use Rattle.widget_host.specs.Housed.{IsApart, IsLaid, accepts, chains, names, rooted, spots}
@@ -58,7 +58,7 @@ present_each : (P : ℕ → Type 0) (c : List ℕ) → 0 < length c → Each P c
 present_each P [] some ps = absurd (omega (arith, some))
 present_each P (v ∷ vs) some ps = ps.0
 
-module _ (c : Crowd) (ss : List Slot) (st : AreStanding c ss) where
+module _ (c : Lives) (ss : List Slot) (st : AreStanding c ss) where
   abbrev page : Page
   page = c.shared.page
 
@@ -125,13 +125,13 @@ module _ (c : Crowd) (ss : List Slot) (st : AreStanding c ss) where
       by false e = (st.spare v a here below e).top
 
 module _ (h : Host) (apart : IsApart h) where
-  pub laid_rooted : (xs : List (List ℕ)) (pieces : List PagePiece) → IsLaid h xs pieces → layout.IsLaid h.crowd.shared.page xs (rooted (accepts h) (chains h)) pieces
+  pub laid_rooted : (xs : List (List ℕ)) (pieces : List PagePiece) → IsLaid h xs pieces → layout.IsLaid h.lives.shared.page xs (rooted (accepts h) (chains h)) pieces
   unfolding IsLaid accepts chains names spots
   laid_rooted xs pieces laid =
-      laid_by h.crowd.shared.page xs (rooted (is_accepted h.crowd.places.items) (chains_of h.slots.items)) pieces (spots_of h.crowd h.slots.items) laid.2
-      (subst (λ ns. AreLotsOf h.crowd.shared.page ns (rooted (is_accepted h.crowd.places.items) (chains_of h.slots.items)) (spots_of h.crowd h.slots.items)) (sym laid.0)
-      (lots_stand h.crowd h.slots.items apart.standing (let few = apart.standing.few in omega (arith, few, apart.twenty))))
+      laid_by h.lives.shared.page xs (rooted (is_accepted h.lives.places.items) (chains_of h.slots.items)) pieces (spots_of h.lives h.slots.items) laid.2
+      (subst (λ ns. AreLotsOf h.lives.shared.page ns (rooted (is_accepted h.lives.places.items) (chains_of h.slots.items)) (spots_of h.lives h.slots.items)) (sym laid.0)
+      (lots_stand h.lives h.slots.items apart.standing (let few = apart.standing.few in omega (arith, few, apart.twenty))))
 
-  pub parent_of : (v : ℕ) (a : Place) → slice_get h.crowd.places.items v ≡ Some a → a.life.accepted ≡ true → (at (nodes h.crowd.shared.page) a.root).parent ≡ (if is_present v (chains h) then Some body else None)
+  pub parent_of : (v : ℕ) (a : Place) → slice_get h.lives.places.items v ≡ Some a → a.life.accepted ≡ true → (at (nodes h.lives.shared.page) a.root).parent ≡ (if is_present v (chains h) then Some body else None)
   unfolding chains
-  parent_of v a here is = parent_at h.crowd h.slots.items apart.standing v a (let lt = within h.crowd.places.items v a here in omega (arith, lt, apart.twenty)) here is
+  parent_of v a here is = parent_at h.lives h.slots.items apart.standing v a (let lt = within h.lives.places.items v a here in omega (arith, lt, apart.twenty)) here is

@@ -16,28 +16,28 @@ use Rattle.page_build.proofs.Pieces.{laid_passes}
 use Rattle.page_build.proofs.Passing.{pages_here, pages_then}
 use Rattle.page_build.specs.Standing.{HavePlaces}
 use Rattle.page_plan.specs.Pages.{PagePiece}
-use Rattle.slot_picks.specs.declared.crowd.Crowd.{Crowd}
-use Rattle.slot_picks.specs.declared.crowd.Place.{Place}
+use Rattle.slot_picks.specs.declared.lives.Lives.{Lives}
+use Rattle.slot_picks.specs.declared.lives.Place.{Place}
 use Rattle.slot_picks.specs.declared.slots.Slot.{Slot}
-use Rattle.slot_picks.specs.Crowds.{KeepsSlots, chains_of, spots_of}
+use Rattle.slot_picks.specs.Lives.{KeepsSlots, chains_of, spots_of}
 use Rattle.slot_picks.specs.Places.{is_accepted}
 use Rattle.widget_host.specs.declared.host.Host.{Host}
 use Rattle.widget_host.specs.Housed.{IsApart, IsLaid, KeepsHost, KeepsPlan, accepts, channels, ends, fuels, homes, libraries, names, scripts, shared, spots}
 
 -- lives stay apart
-module _ (old new : Host) (k : KeepsSlots old.crowd new.crowd old.slots.items new.slots.items) (a : IsApart old) where
-  was_none : (v : ℕ) → accepts new v ≡ false → is_accepted old.crowd.places.items v ≡ false
+module _ (old new : Host) (k : KeepsSlots old.lives new.lives old.slots.items new.slots.items) (a : IsApart old) where
+  was_none : (v : ℕ) → accepts new v ≡ false → is_accepted old.lives.places.items v ≡ false
   unfolding accepts
   was_none v none = ap (λ flags. slice_index_or flags v false) (sym k.lives.accepts) ∙ none
 
   pub apart_stays : IsApart new
   unfolding accepts names
   apart_stays = record {
-    twenty = sym (length-map new.crowd.places.items (λ (p : Place). p.life.slot)) ∙ ap length k.lives.homes ∙ length-map old.crowd.places.items (λ (p : Place). p.life.slot) ∙ a.twenty;
+    twenty = sym (length-map new.lives.places.items (λ (p : Place). p.life.slot)) ∙ ap length k.lives.homes ∙ length-map old.lives.places.items (λ (p : Place). p.life.slot) ∙ a.twenty;
     own = k.lives.holds a.own;
     others = λ v none.
         let before = a.others v (was_none v none) in
-        let nodes : own new.crowd.shared.page v ≡ [] = k.lives.nodes v (was_none v none) ∙ before.nodes in
+        let nodes : own new.lives.shared.page v ≡ [] = k.lives.nodes v (was_none v none) ∙ before.nodes in
         record {
           cells = record {
             heap = ap (λ (o : Owned). o.heap) (k.lives.cells v (was_none v none)) ∙ before.cells.heap;
@@ -45,7 +45,7 @@ module _ (old new : Host) (k : KeepsSlots old.crowd new.crowd old.slots.items ne
           };
           nodes = nodes;
           unpaid = λ low. k.lives.cells v (was_none v none) ∙ before.unpaid low;
-          away = λ low. away_by new.crowd.shared.page v low (k.page.roots v low ∙ (before.away low).free) nodes;
+          away = λ low. away_by new.lives.shared.page v low (k.page.roots v low ∙ (before.away low).free) nodes;
         };
     standing = k.standing a.standing;
     distinct = subst (IsDistinct bytes_eq) (sym k.names) a.distinct;
@@ -60,21 +60,21 @@ slots_long : (ss ts : List Slot) → map (λ (s : Slot). s.name) ts ≡ map (λ 
 slots_long ss ts e = sym (length-map ts (λ (s : Slot). s.name)) ∙ ap length e ∙ length-map ss (λ (s : Slot). s.name)
 
 -- a spot for each slot
-pub spots_long : (c : Crowd) (ss : List Slot) → length (spots_of c ss) ≡ length ss
+pub spots_long : (c : Lives) (ss : List Slot) → length (spots_of c ss) ≡ length ss
 spots_long c ss = length-map (chains_of ss) _ ∙ length-map ss (λ (s : Slot). s.lives.items)
 
 -- a host keeps what its slots do, where nothing else of it changes
-module _ (old new : Host) (k : KeepsSlots old.crowd new.crowd old.slots.items new.slots.items) (pairs : new.channels ≡ old.channels) (libs : new.libs ≡ old.libs) (over : new.ends ≡ old.ends) where
-  long : length (spots_of new.crowd new.slots.items) ≡ length (spots_of old.crowd old.slots.items)
-  long = spots_long new.crowd new.slots.items ∙ slots_long old.slots.items new.slots.items k.names ∙ sym (spots_long old.crowd old.slots.items)
+module _ (old new : Host) (k : KeepsSlots old.lives new.lives old.slots.items new.slots.items) (pairs : new.channels ≡ old.channels) (libs : new.libs ≡ old.libs) (over : new.ends ≡ old.ends) where
+  long : length (spots_of new.lives new.slots.items) ≡ length (spots_of old.lives old.slots.items)
+  long = spots_long new.lives new.slots.items ∙ slots_long old.slots.items new.slots.items k.names ∙ sym (spots_long old.lives old.slots.items)
 
   pub laid_stays : (xs : List (List ℕ)) (pieces : List PagePiece) → IsLaid old xs pieces → IsLaid new xs pieces
   unfolding IsLaid names spots
   laid_stays xs pieces laid =
-      let many : length xs ≡ length (spots_of old.crowd old.slots.items) = ap length laid.0 ∙ length-map old.slots.items (λ (s : Slot). s.name) ∙ sym (spots_long old.crowd old.slots.items) in (
+      let many : length xs ≡ length (spots_of old.lives old.slots.items) = ap length laid.0 ∙ length-map old.slots.items (λ (s : Slot). s.name) ∙ sym (spots_long old.lives old.slots.items) in (
         laid.0 ∙ sym k.names,
         laid.1,
-        laid_passes old.crowd.shared.page new.crowd.shared.page (spots_of old.crowd old.slots.items) (spots_of new.crowd new.slots.items) k.page.host long pieces (subst (λ n. HavePlaces n pieces) many laid.1) laid.2,
+        laid_passes old.lives.shared.page new.lives.shared.page (spots_of old.lives old.slots.items) (spots_of new.lives new.slots.items) k.page.host long pieces (subst (λ n. HavePlaces n pieces) many laid.1) laid.2,
       )
 
   pub host_stays : KeepsHost old new

@@ -20,9 +20,9 @@ use Rattle.slot_laws.specs.Slots.{IsTail, has}
 use Rattle.slot_laws.specs.Chains.{PickedIn, Unspent, joins, last_life, last_at}
 use Rattle.slot_rounds.specs.Feeding.{sum_of}
 use Rattle.slot_picks.specs.Places.{HoldsItsOwn, codes_of, homes_of, is_accepted, roots_of, told_of}
-use Rattle.slot_picks.specs.declared.crowd.Place.{Place}
+use Rattle.slot_picks.specs.declared.lives.Place.{Place}
 use Rattle.slot_picks.specs.declared.slots.Slot.{Slot}
-use Rattle.slot_picks.specs.Crowds.{AreHoused, AreStanding, FewCrowd, OwnCrowd, chains_of, present_of, seens_of, spots_of}
+use Rattle.slot_picks.specs.Lives.{AreHoused, AreStanding, FewLives, OwnLives, chains_of, present_of, seens_of, spots_of}
 use Rattle.widget_meaning.specs.Limits.{max_posts}
 use Rattle.widget_meaning.specs.Values as meaning
 use Rattle.widget_meaning.specs.OwnState.{OwnState}
@@ -50,7 +50,7 @@ use Rattle.widget_host.specs.declared.lines.LifeStop.TheVariants as stop
 
 -- what is seen of each of its lives; the place of a life is its number
 unfoldable pub seens : Host → List Seen
-seens h = seens_of h.crowd
+seens h = seens_of h.lives
 
 -- the lives of each slot: the present one, then those whose swap waits
 unfoldable pub chains : Host → List (List ℕ)
@@ -58,27 +58,27 @@ chains h = chains_of h.slots.items
 
 -- the slot of each life; of a place where none was born, the place itself
 unfoldable pub homes : Host → List ℕ
-homes h = homes_of h.crowd.places.items
+homes h = homes_of h.lives.places.items
 
 -- whether the file of a life was accepted
 unfoldable pub accepts : Host → ℕ → Bool
-accepts h v = is_accepted h.crowd.places.items v
+accepts h v = is_accepted h.lives.places.items v
 
 -- its lives, each with the trees of its scripts; the place of a life is its number
 unfoldable pub places : Host → List Place
-places h = h.crowd.places.items
+places h = h.lives.places.items
 
 -- what all of them share: the store and the page
 unfoldable pub shared : Host → Shared
-shared h = h.crowd.shared
+shared h = h.lives.shared
 
 -- the last picks that were not idle
 unfoldable pub journal : Host → List PickEntry
-journal h = h.crowd.journal.items
+journal h = h.lives.journal.items
 
 -- the scripts of a life: those of the libraries that its file names, in order, and its last script; none where no life is
 unfoldable pub scripts : Host → ℕ → List Tree
-scripts h v = slice_index_or (map (λ (codes : Vec Code Global). map tree_in codes.items) (codes_of h.crowd.places.items)) v []
+scripts h v = slice_index_or (map (λ (codes : Vec Code Global). map tree_in codes.items) (codes_of h.lives.places.items)) v []
 
 -- the plain trees of their nodes
 abbrev pub own_trees : Host → ℕ → List Forest
@@ -102,7 +102,7 @@ libraries h = map tree_in h.libs.items
 
 -- the node that stands in each slot: that of the life that is present
 unfoldable pub spots : Host → List ℕ
-spots h = spots_of h.crowd h.slots.items
+spots h = spots_of h.lives h.slots.items
 
 -- the life that each swap that was given ends, in order
 unfoldable pub ends : Host → List ℕ
@@ -114,7 +114,7 @@ swaps h = length (ends h)
 
 -- how many posts of a life rounds have taken
 unfoldable pub told : Host → List ℕ
-told h = told_of h.crowd.places.items
+told h = told_of h.lives.places.items
 
 -- how many items it was given
 unfoldable pub given : Host → ℕ
@@ -130,18 +130,18 @@ most_after n = 2 ^ 31 + n * 400000
 
 -- What holds also after want of memory: each accepted life holds its own alone, and a number that is no accepted life's has no cell and no node; in each slot stands the node of its present life; no two slots have one name.
 pub record IsApart (h : Host) : Type 0 where
-  pub twenty : length h.crowd.places.items ≡ 20
-  pub own : OwnCrowd h.crowd
-  pub others : (v : ℕ) → accepts h v ≡ false → HasNothing v h.crowd.shared.store h.crowd.shared.page
-  pub standing : AreStanding h.crowd h.slots.items
+  pub twenty : length h.lives.places.items ≡ 20
+  pub own : OwnLives h.lives
+  pub others : (v : ℕ) → accepts h v ≡ false → HasNothing v h.lives.shared.store h.lives.shared.page
+  pub standing : AreStanding h.lives h.slots.items
   pub distinct : IsDistinct bytes_eq (names h)
 
 -- Its lives are in their slots, their counts have room, and each accepted one is sound (`FineLife`): it is confined, and what its turn, its queue and its loop hold is its own. Each node of the page has its RawNode. Where no life was born yet the place is free.
 pub record IsWhole (h : Host) : Type 0 where
-  pub slots : AreHoused (16 + swaps h) h.crowd h.slots.items
-  pub room : FewCrowd (most_after h.given + sum_of (told h)) h.crowd
-  pub raws : HaveRaws h.crowd.shared.store h.crowd.shared.page
-  pub free : (v : ℕ) → 16 + swaps h ≤ v → (accepts h v ≡ false) × (slice_index_or (roots_of h.crowd.places.items) v body ≡ body) × (slice_index_or (told h) v 0 ≡ 0)
+  pub slots : AreHoused (16 + swaps h) h.lives h.slots.items
+  pub room : FewLives (most_after h.given + sum_of (told h)) h.lives
+  pub raws : HaveRaws h.lives.shared.store h.lives.shared.page
+  pub free : (v : ℕ) → 16 + swaps h ≤ v → (accepts h v ≡ false) × (slice_index_or (roots_of h.lives.places.items) v body ≡ body) × (slice_index_or (told h) v 0 ≡ 0)
   pub told : (v n : ℕ) → slice_get (told h) v ≡ Some n → n ≤ max_posts
   pub fuels : (w n : ℕ) → slice_get (fuels h) w ≡ Some n → n ≤ 1000000
   pub given : h.given ≤ 4096
@@ -161,7 +161,7 @@ rooted accepted cs = map (λ c. if accepted (present_of c) then Some (present_of
 
 -- its slots have these names, and its page these pieces, among them each slot
 unfoldable pub IsLaid : Host → List (List ℕ) → List PagePiece → Type 0
-IsLaid h xs pieces = (xs ≡ names h) × HavePlaces (length xs) pieces × IsLaidBy h.crowd.shared.page (spots h) pieces
+IsLaid h xs pieces = (xs ≡ names h) × HavePlaces (length xs) pieces × IsLaidBy h.lives.shared.page (spots h) pieces
 
 -- ## What stays
 

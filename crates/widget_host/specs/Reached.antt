@@ -7,7 +7,7 @@ use Rattle.widget_host.specs.declared.host.Host.{Host}
 
 -- the certificate of its slots, each by its last life, read off its own store and page and what the lives hold beside them
 unfoldable pub reached : Host → List cert.Slot
-reached h = slots.reached h.crowd h.slots.items
+reached h = slots.reached h.lives h.slots.items
 
 -- of the lives of each slot the last one alone
 abbrev pub lasts : List (List ℕ) → List (List ℕ)

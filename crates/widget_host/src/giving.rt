@@ -4,7 +4,7 @@ ghost use Rattle.std.specs.List.{list_any};
 ghost use Rattle.life_laws.specs.Life.{image};
 ghost use Rattle.life_queue.specs.declared.life.Work.TheVariants as work;
 ghost use Rattle.slot_laws.specs.Chains.{Chains, last_life};
-ghost use Rattle.slot_picks.specs.Crowds.{chains_of};
+ghost use Rattle.slot_picks.specs.Lives.{chains_of};
 ghost use Rattle.slot_picks.specs.Places.{homes_of};
 ghost use Rattle.widget_host.specs.Feeding.{AreFed, AreSame, IsFed, IsSame, work_of};
 ghost use Rattle.widget_host.specs.Housed.{GivesItem, IsHoused, IsItem, KeepsHost, chains, given, is_for, journal, marked, seens, shared, told};
@@ -100,7 +100,7 @@ impl Host {
         if self.marked {
             return Err(Memory);
         }
-        match feed_item(&mut self.crowd.places, &self.slots, item) {
+        match feed_item(&mut self.lives.places, &self.slots, item) {
             Ok(()) => {
                 self.given += 1;
                 Ok(())

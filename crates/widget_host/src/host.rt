@@ -6,8 +6,8 @@ ghost use Rattle.page_build.specs.Layout as layout;
 ghost use Rattle.page_image.specs.Image.{HasRoot, owns, root_of};
 ghost use Rattle.page_nodes.specs.Entries.{at, body};
 ghost use Rattle.page_tree.specs.Pages.{nodes};
-ghost use Rattle.slot_picks.specs.Crowds.{is_present};
-ghost use Rattle.slot_picks.specs.declared.crowd.Place.{Place};
+ghost use Rattle.slot_picks.specs.Lives.{is_present};
+ghost use Rattle.slot_picks.specs.declared.lives.Place.{Place};
 ghost use Rattle.slot_picks.specs.Places.{HoldsItsOwn};
 ghost use Rattle.widget_meaning.specs.OwnState.{OwnState};
 ghost use Rattle.page_output.specs.Printing.{Prints, PrintsPart};
@@ -28,7 +28,7 @@ use page_output::print;
 use page_plan::PageSpec;
 use page_tree::Page;
 use pick_laws::PickEntry;
-use slot_picks::{Crowd, Slot, present};
+use slot_picks::{Lives, Slot, present};
 use std::alloc::Global;
 use std::collections::VecDeque;
 
@@ -38,7 +38,7 @@ use std::collections::VecDeque;
 /// still be read, and its page printed.
 #[derive(Drop)]
 pub struct Host {
-    pub(crate) crowd: Crowd,
+    pub(crate) lives: Lives,
     pub(crate) slots: Vec<Slot>,
     /// The libraries of the page, for the contents of swaps.
     pub(crate) libs: Vec<Code>,
@@ -77,7 +77,7 @@ impl Host {
         ensures raws { IsHoused self.now → marked self.now ≡ false → (n : ℕ)
             → n < length (nodes (shared self.now).page) → HasOneRaw result.now.cells n }
     {
-        let store = &self.crowd.shared.store;
+        let store = &self.lives.shared.store;
         store.nodes_have_one_cell();
         store
     }
@@ -97,7 +97,7 @@ impl Host {
             × ((at (nodes result.now) p.root).parent ≡ (if is_present v (chains self.now) then Some body else None)) }
         ensures owners { IsHoused self.now → (v n : ℕ) → owns result.now v n ≡ true → accepts self.now v ≡ true }
     {
-        &self.crowd.shared.page
+        &self.lives.shared.page
     }
 
     /// A law: all that an accepted life holds is its own, also where the host is marked: what its cells lead to, the
@@ -122,7 +122,7 @@ impl Host {
         ensures short { IsHoused self.now → marked self.now ≡ false → length (journal self.now) ≤ journal_room }
         ensures joined { IsHoused self.now → marked self.now ≡ false → AllJoined (journal self.now) (seens self.now) }
     {
-        &self.crowd.journal
+        &self.lives.journal
     }
 
     /// A law: a turn in progress has no more fuel left than a turn of its life is granted, so that no turn spends more.
@@ -144,7 +144,7 @@ impl Host {
             → IsLaid self.now names pieces → AreShown self.now (chains self.now) ends
             → PrintsPart (page_of pieces (roots names ends)) out.old.items out.new.items) }
     {
-        print(alloc, &self.crowd.shared.page, BODY, out)
+        print(alloc, &self.lives.shared.page, BODY, out)
     }
 
     /// The text of what stands in a slot is appended, in the time that this text takes: the root of its present life,
@@ -161,7 +161,7 @@ impl Host {
             → PrintsPart (slice_index_or (roots names ends) w End) out.old.items out.new.items) }
     {
         let v = present(&self.slots[w as usize].lives);
-        let node = self.crowd.places[v as usize].root;
-        print(alloc, &self.crowd.shared.page, node, out)
+        let node = self.lives.places[v as usize].root;
+        print(alloc, &self.lives.shared.page, node, out)
     }
 }

@@ -2,7 +2,7 @@
 ghost use Rattle.std.specs.Prelude.{◌≡◌, ◌<◌, ℕ, IfOk, IsErr, Some, true, option_map, slice_get, slice_index_or, length, false};
 ghost use Rattle.life_laws.specs.Life.{Seen, image};
 ghost use Rattle.slot_laws.specs.Chains.{listed};
-ghost use Rattle.slot_picks.specs.Crowds.{FineCrowd, seens_of};
+ghost use Rattle.slot_picks.specs.Lives.{FineLives, seens_of};
 ghost use Rattle.slot_picks.specs.Places.{is_accepted};
 ghost use Rattle.life_queue.specs.Lives as life;
 ghost use Rattle.life_queue.specs.Lives.{life_seen};
@@ -13,7 +13,7 @@ use crate::host::Host;
 use code_units::{Memory, Text};
 use js_image::StopCause;
 use life_queue::Life;
-use slot_picks::{Crowd, present, spent_at};
+use slot_picks::{Lives, present, spent_at};
 use std::alloc::Global;
 
 /// Why a life has stopped: a turn had no fuel left, or a limit would have been passed.
@@ -76,14 +76,14 @@ fn line_of(alloc: Global, life: &Life, spent: u64) -> Result<RunLine, Memory>
 }
 
 // What the life with a number did.
-fn line_at(alloc: Global, crowd: &Crowd, v: u32) -> Result<RunLine, Memory>
-    requires there { v < length crowd.now.places.items }
-    requires accepted { is_accepted crowd.now.places.items v ≡ true }
-    requires fine { FineCrowd crowd.now }
-    ensures { IfOk result (λ l. (s : Seen) → slice_get (seens_of crowd.now) v ≡ Some s → IsLineOf l (image s)) }
+fn line_at(alloc: Global, lives: &Lives, v: u32) -> Result<RunLine, Memory>
+    requires there { v < length lives.now.places.items }
+    requires accepted { is_accepted lives.now.places.items v ≡ true }
+    requires fine { FineLives lives.now }
+    ensures { IfOk result (λ l. (s : Seen) → slice_get (seens_of lives.now) v ≡ Some s → IsLineOf l (image s)) }
 {
-    let spent = spent_at(crowd, v);
-    line_of(alloc, &crowd.places[v as usize].life, spent)
+    let spent = spent_at(lives, v);
+    line_of(alloc, &lives.places[v as usize].life, spent)
 }
 
 impl Host {
@@ -100,7 +100,7 @@ impl Host {
             return Err(Memory);
         }
         let v = present(&self.slots[w as usize].lives);
-        line_at(alloc, &self.crowd, v)
+        line_at(alloc, &self.lives, v)
     }
 
     /// What the life did that the swap with a number, counted from 0, has ended: one that was taken, of a life whose
@@ -117,6 +117,6 @@ impl Host {
         if self.marked {
             return Err(Memory);
         }
-        line_at(alloc, &self.crowd, self.ends[i as usize])
+        line_at(alloc, &self.lives, self.ends[i as usize])
     }
 }

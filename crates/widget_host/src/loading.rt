@@ -18,13 +18,13 @@ pub(crate) fn load_host(alloc: Global, keys: Keys, spec: PageSpec) -> Result<Hos
     ensures { IfOk result (Loads spec) }
 {
     let Loaded {
-        crowd,
+        lives,
         slots,
         libs,
         channels,
     } = load_page(alloc, keys, spec)?;
     Ok(Host {
-        crowd,
+        lives,
         slots,
         libs,
         keys,

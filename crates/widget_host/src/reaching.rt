@@ -40,6 +40,6 @@ impl Host {
             return Err(Memory);
         }
         lasts_are_told();
-        slot_reach::reach(alloc, &self.crowd, &self.slots)
+        slot_reach::reach(alloc, &self.lives, &self.slots)
     }
 }

@@ -45,7 +45,7 @@ impl Host {
         ensures mark { OnErr result (marked self.new ≡ true) }
         ensures unmarked { OnOk result (marked self.new ≡ false) }
     {
-        match deliver_posts(alloc, &mut self.crowd.places, &self.slots, &self.channels) {
+        match deliver_posts(alloc, &mut self.lives.places, &self.slots, &self.channels) {
             Ok(delivered) => Ok(delivered),
             Err(fault) => {
                 self.marked = true;

@@ -41,7 +41,7 @@ impl Host {
         if self.marked {
             return Err(Memory);
         }
-        match pick_slot(alloc, &mut self.crowd, &mut self.slots, w, k) {
+        match pick_slot(alloc, &mut self.lives, &mut self.slots, w, k) {
             Ok(picked) => Ok(picked),
             Err(fault) => {
                 self.marked = true;
@@ -79,7 +79,7 @@ impl Host {
         if self.marked {
             return Err(Memory);
         }
-        match settle_slots(alloc, &mut self.crowd, &mut self.slots, chooser, slice) {
+        match settle_slots(alloc, &mut self.lives, &mut self.slots, chooser, slice) {
             Ok(()) => Ok(()),
             Err(fault) => {
                 self.marked = true;

@@ -4,7 +4,7 @@ ghost use Rattle.page_plan.specs.Loadable.{IsSwapLoadable};
 ghost use Rattle.pick_laws.specs.Journal.{on_at};
 ghost use Rattle.slot_laws.specs.Chains.{joins};
 ghost use Rattle.slot_picks.specs.declared.slots.Slot.{Slot as SlotOf};
-ghost use Rattle.slot_picks.specs.Crowds.{chains_of};
+ghost use Rattle.slot_picks.specs.Lives.{chains_of};
 ghost use Rattle.widget_host.specs.Housed.{BearsLife, GivesSwap, IsApart, IsHoused, IsWhole, KeepsOthers, chains, given, libraries, marked, names, swaps};
 
 use crate::giving::last_of;
@@ -45,7 +45,7 @@ impl Host {
         let last = last_of(&self.slots[to as usize].lives);
         let slot = &self.slots[to as usize];
         let coming = Coming { to, v, content };
-        add_life(alloc, self.keys, &mut self.crowd, &self.libs, slot, coming)?;
+        add_life(alloc, self.keys, &mut self.lives, &self.libs, slot, coming)?;
         self.ends.push(last)?;
         join(&mut self.slots, to as usize, v)
     }

@@ -1,6 +1,6 @@
 use Rattle.std.proofs.Common.{ap, arith, length, refl, subst, sym, ◌∙◌}
 use Rattle.std.proofs.lemmas.List.{length_push}
-use Rattle.slot_picks.specs.declared.crowd.Place.{Place}
+use Rattle.slot_picks.specs.declared.lives.Place.{Place}
 use Rattle.page_load.specs.Lives.{HaveTrees, IsPlaceOf}
 use Rattle.page_load.proofs.Growing.{in_rooted, nobodys_more, places_more, places_none, rooted, roots_more, roots_none, taken, tree_left}
 use Rattle.page_load.proofs.lives.places_of.Goals as goal

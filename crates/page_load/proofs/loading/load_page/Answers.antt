@@ -42,7 +42,7 @@ returns c =
     let b = c.in_ok-store.field-0 in
     let starts = c.in_ok-starts.starts.items in
     let specs = c.args.spec.slots.items in
-    let l : Loaded = record { crowd = record { shared = c.places_of.new.shared; places = c.in_ok-places.places; journal = c.new-2.result }; slots = c.in_ok-slots.slots; libs = c.in_ok-libs.libs; channels = c.args.spec.channels } in
+    let l : Loaded = record { lives = record { shared = c.places_of.new.shared; places = c.in_ok-places.places; journal = c.new-2.result }; slots = c.in_ok-slots.slots; libs = c.in_ok-libs.libs; channels = c.args.spec.channels } in
     page_loads c.args.spec l b.store b.page b.roots.items (subst (λ slots. AreLaid slots b.roots.items b.store b.page) c.deref-2.ensures.value c.in_ok-store.ensures.laid)
     (c.in_ok-store.ensures.all ∙ ap length c.deref-2.ensures.value) starts
     (subst (λ (cs : List Code). AreStarts (map tree_in cs) specs starts) c.deref-4.ensures.value c.in_ok-starts.ensures)

@@ -1,6 +1,6 @@
 use Rattle.std.proofs.Common.{◌≡◌, length, map, ap, arith, ◌∙◌}
 use Rattle.slot_picks.specs.declared.slots.Slot.{Slot}
-use Rattle.slot_picks.specs.Crowds.{chains_of}
+use Rattle.slot_picks.specs.Lives.{chains_of}
 use Rattle.page_load.specs.Homes.{fuels_of, names_of}
 use Rattle.page_load.specs.Loads.{singles}
 use Rattle.page_load.proofs.Growing.{chains_more, few_more, few_none, fuels_more, names_more, specs_all}

@@ -1,6 +1,6 @@
 use Rattle.std.proofs.Common.{◌≡◌, map, take}
 use Rattle.slot_picks.specs.declared.slots.Slot.{Slot}
-use Rattle.slot_picks.specs.Crowds.{chains_of}
+use Rattle.slot_picks.specs.Lives.{chains_of}
 use Rattle.page_load.specs.Homes.{fuels_of, names_of}
 use Rattle.page_load.specs.Loads.{HaveFewFuel, singles}
 use Rattle.page_load.proofs.loading.slots_of.Given as goal

@@ -34,8 +34,8 @@ index-requires-2 c =
     let u = c.present-next.result in
     let e = c.end_present-ended.ensures in
     let next : slice_get t.lives.items 0 ≡ Some u = next_at ss w s t c.index.result.now c.deref.result.now here c.index.ensures c.deref.ensures.value u c.present-next.ensures in
-    let below = both_below c.args.crowd.now ss w v u s t here e.ended e.lives next e.name e.fuel c.requires.standing in
-    omega (arith, below.0, c.args.crowd.now.places.ok.0)
+    let below = both_below c.args.lives.now ss w v u s t here e.ended e.lives next e.name e.fuel c.requires.standing in
+    omega (arith, below.0, c.args.lives.now.places.ok.0)
 
 pub index-requires-3 : goal.index-requires-3
 index-requires-3 c =
@@ -48,8 +48,8 @@ index-requires-3 c =
     let u = c.present-next.result in
     let e = c.end_present-ended.ensures in
     let next : slice_get t.lives.items 0 ≡ Some u = next_at ss w s t c.index.result.now c.deref.result.now here c.index.ensures c.deref.ensures.value u c.present-next.ensures in
-    let below = both_below c.args.crowd.now ss w v u s t here e.ended e.lives next e.name e.fuel c.requires.standing in
-    omega (arith, below.1, c.args.crowd.now.places.ok.0)
+    let below = both_below c.args.lives.now ss w v u s t here e.ended e.lives next e.name e.fuel c.requires.standing in
+    omega (arith, below.1, c.args.lives.now.places.ok.0)
 
 pub swap_stands-requires-clause-standing : goal.swap_stands-requires-clause-standing
 swap_stands-requires-clause-standing c =
@@ -62,13 +62,13 @@ swap_stands-requires-clause-standing c =
     let u = c.present-next.result in
     let e = c.end_present-ended.ensures in
     let next : slice_get t.lives.items 0 ≡ Some u = next_at ss w s t c.index.result.now c.deref.result.now here c.index.ensures c.deref.ensures.value u c.present-next.ensures in
-    let below = both_below c.args.crowd.now ss w v u s t here e.ended e.lives next e.name e.fuel c.requires.standing in
-    let ps = c.args.crowd.now.places.items in
+    let below = both_below c.args.lives.now ss w v u s t here e.ended e.lives next e.name e.fuel c.requires.standing in
+    let ps = c.args.lives.now.places.items in
     let a = c.index-2.result.now in
     let b = c.index-3.result.now in
     let ends : slice_get ps v ≡ Some a = slice_get_read ps (length ps) v a refl below.0 c.index-2.ensures in
     let comes : slice_get ps u ≡ Some b = slice_get_read ps (length ps) u b refl below.1 c.index-3.ensures in
-    ended_stands c.args.crowd.now ss w v u s t here e.ended e.lives next e.name e.fuel a b ends comes c.requires.fine c.requires.standing
+    ended_stands c.args.lives.now ss w v u s t here e.ended e.lives next e.name e.fuel a b ends comes c.requires.fine c.requires.standing
 
 pub swap_stands-requires-clause-spare : goal.swap_stands-requires-clause-spare
 swap_stands-requires-clause-spare c =
@@ -81,16 +81,16 @@ swap_stands-requires-clause-spare c =
     let u = c.present-next.result in
     let e = c.end_present-ended.ensures in
     let next : slice_get t.lives.items 0 ≡ Some u = next_at ss w s t c.index.result.now c.deref.result.now here c.index.ensures c.deref.ensures.value u c.present-next.ensures in
-    let below = both_below c.args.crowd.now ss w v u s t here e.ended e.lives next e.name e.fuel c.requires.standing in
-    let ps = c.args.crowd.now.places.items in
+    let below = both_below c.args.lives.now ss w v u s t here e.ended e.lives next e.name e.fuel c.requires.standing in
+    let ps = c.args.lives.now.places.items in
     let a = c.index-2.result.now in
     let b = c.index-3.result.now in
     let ends : slice_get ps v ≡ Some a = slice_get_read ps (length ps) v a refl below.0 c.index-2.ensures in
     let comes : slice_get ps u ≡ Some b = slice_get_read ps (length ps) u b refl below.1 c.index-3.ensures in
-    next_spare c.args.crowd.now ss w v u s t here e.ended e.lives next e.name e.fuel a b ends comes c.requires.fine c.requires.standing
+    next_spare c.args.lives.now ss w v u s t here e.ended e.lives next e.name e.fuel a b ends comes c.requires.fine c.requires.standing
 
 pub returns-clause-seens : goal.returns-clause-seens
-returns-clause-seens c = swap_seens c.args.crowd.now c.swap_stands.new.page c.swap_stands.ensures.nodes c.swap_stands.ensures.trees c.requires.fine
+returns-clause-seens c = swap_seens c.args.lives.now c.swap_stands.new.page c.swap_stands.ensures.nodes c.swap_stands.ensures.trees c.requires.fine
 
 pub returns-clause-journal : goal.returns-clause-journal
 returns-clause-journal c = refl
@@ -106,13 +106,13 @@ returns-clause-chains c =
     let u = c.present-next.result in
     let e = c.end_present-ended.ensures in
     let next : slice_get t.lives.items 0 ≡ Some u = next_at ss w s t c.index.result.now c.deref.result.now here c.index.ensures c.deref.ensures.value u c.present-next.ensures in
-    chains_on c.args.crowd.now ss w v u s t here e.ended e.lives next e.name e.fuel
+    chains_on c.args.lives.now ss w v u s t here e.ended e.lives next e.name e.fuel
 
 pub returns-clause-fine : goal.returns-clause-fine
-returns-clause-fine c = swap_fine c.args.crowd.now c.swap_stands.new.page c.swap_stands.ensures.nodes c.swap_stands.ensures.trees c.requires.fine
+returns-clause-fine c = swap_fine c.args.lives.now c.swap_stands.new.page c.swap_stands.ensures.nodes c.swap_stands.ensures.trees c.requires.fine
 
 pub returns-clause-few : goal.returns-clause-few
-returns-clause-few c = swap_few c.args.crowd.now c.swap_stands.new.page c.swap_stands.ensures.nodes c.swap_stands.ensures.trees c.requires.fine
+returns-clause-few c = swap_few c.args.lives.now c.swap_stands.new.page c.swap_stands.ensures.nodes c.swap_stands.ensures.trees c.requires.fine
 
 pub returns-clause-stays : goal.returns-clause-stays
 returns-clause-stays c =
@@ -125,11 +125,11 @@ returns-clause-stays c =
     let u = c.present-next.result in
     let e = c.end_present-ended.ensures in
     let next : slice_get t.lives.items 0 ≡ Some u = next_at ss w s t c.index.result.now c.deref.result.now here c.index.ensures c.deref.ensures.value u c.present-next.ensures in
-    let below = both_below c.args.crowd.now ss w v u s t here e.ended e.lives next e.name e.fuel c.requires.standing in
-    let ps = c.args.crowd.now.places.items in
+    let below = both_below c.args.lives.now ss w v u s t here e.ended e.lives next e.name e.fuel c.requires.standing in
+    let ps = c.args.lives.now.places.items in
     let a = c.index-2.result.now in
     let b = c.index-3.result.now in
     let ends : slice_get ps v ≡ Some a = slice_get_read ps (length ps) v a refl below.0 c.index-2.ensures in
     let comes : slice_get ps u ≡ Some b = slice_get_read ps (length ps) u b refl below.1 c.index-3.ensures in
     let x = c.swap_stands.ensures in
-    swap_keeps c.args.crowd.now ss w v u s t here e.ended e.lives next e.name e.fuel a b ends comes c.requires.fine c.requires.standing c.swap_stands.new.page x.exchanged x.nodes x.trees x.standing x.spare x.others_stand x.others_spare
+    swap_keeps c.args.lives.now ss w v u s t here e.ended e.lives next e.name e.fuel a b ends comes c.requires.fine c.requires.standing c.swap_stands.new.page x.exchanged x.nodes x.trees x.standing x.spare x.others_stand x.others_spare

@@ -9,45 +9,45 @@ use Rattle.slot_reach.proofs.slots.reach.Goals as goal
 
 pub returns-clause-read : goal.returns-clause-read
 returns-clause-read c =
-    read_is c.args.crowd.now c.args.slots.now _ _ _ _ c.in_ok-blocks.ensures c.deref.ensures.value c.in_ok-names.ensures c.in_ok-count.ensures
+    read_is c.args.lives.now c.args.slots.now _ _ _ _ c.in_ok-blocks.ensures c.deref.ensures.value c.in_ok-names.ensures c.in_ok-count.ensures
 
 pub returns-clause-states : goal.returns-clause-states
 returns-clause-states c own stand =
-    let crowd = c.args.crowd.now in
+    let lives = c.args.lives.now in
     let slots = c.args.slots.now in
-    let read : map slot_of c.in_ok-blocks.blocks.items ≡ reached crowd slots =
-    read_is crowd slots _ _ _ _ c.in_ok-blocks.ensures c.deref.ensures.value c.in_ok-names.ensures c.in_ok-count.ensures in
-    read ∙ slots_are crowd slots c.own_stays.ensures own stand c.states_are_read.ensures c.in_ok-names_all_differ.ensures
+    let read : map slot_of c.in_ok-blocks.blocks.items ≡ reached lives slots =
+    read_is lives slots _ _ _ _ c.in_ok-blocks.ensures c.deref.ensures.value c.in_ok-names.ensures c.in_ok-count.ensures in
+    read ∙ slots_are lives slots c.own_stays.ensures own stand c.states_are_read.ensures c.in_ok-names_all_differ.ensures
 
 pub returns-clause-confined : goal.returns-clause-confined
 returns-clause-confined c own stand =
-    let crowd = c.args.crowd.now in
+    let lives = c.args.lives.now in
     let slots = c.args.slots.now in
-    let read : map slot_of c.in_ok-blocks.blocks.items ≡ reached crowd slots =
-    read_is crowd slots _ _ _ _ c.in_ok-blocks.ensures c.deref.ensures.value c.in_ok-names.ensures c.in_ok-count.ensures in
-    subst IsConfined (sym read) ((c.each_slot_keeps_in.ensures (reached crowd slots)).1 (slots_stay crowd slots c.own_stays.ensures own stand))
+    let read : map slot_of c.in_ok-blocks.blocks.items ≡ reached lives slots =
+    read_is lives slots _ _ _ _ c.in_ok-blocks.ensures c.deref.ensures.value c.in_ok-names.ensures c.in_ok-count.ensures in
+    subst IsConfined (sym read) ((c.each_slot_keeps_in.ensures (reached lives slots)).1 (slots_stay lives slots c.own_stays.ensures own stand))
 
 pub returns-clause-names : goal.returns-clause-names
 returns-clause-names c =
-    let crowd = c.args.crowd.now in
+    let lives = c.args.lives.now in
     let slots = c.args.slots.now in
-    let read : map slot_of c.in_ok-blocks.blocks.items ≡ reached crowd slots =
-    read_is crowd slots _ _ _ _ c.in_ok-blocks.ensures c.deref.ensures.value c.in_ok-names.ensures c.in_ok-count.ensures in
-    ap (map slot_name) read ∙ names_are crowd slots
+    let read : map slot_of c.in_ok-blocks.blocks.items ≡ reached lives slots =
+    read_is lives slots _ _ _ _ c.in_ok-blocks.ensures c.deref.ensures.value c.in_ok-names.ensures c.in_ok-count.ensures in
+    ap (map slot_name) read ∙ names_are lives slots
 
 pub returns-clause-few : goal.returns-clause-few
 returns-clause-few c stand few =
-    let crowd = c.args.crowd.now in
+    let lives = c.args.lives.now in
     let slots = c.args.slots.now in
-    let read : map slot_of c.in_ok-blocks.blocks.items ≡ reached crowd slots =
-    read_is crowd slots _ _ _ _ c.in_ok-blocks.ensures c.deref.ensures.value c.in_ok-names.ensures c.in_ok-count.ensures in
-    subst (λ cert. length (cert_lines cert) < 4294967295) (sym read) (few_lines crowd slots c.cells_are_few.ensures stand few)
+    let read : map slot_of c.in_ok-blocks.blocks.items ≡ reached lives slots =
+    read_is lives slots _ _ _ _ c.in_ok-blocks.ensures c.deref.ensures.value c.in_ok-names.ensures c.in_ok-count.ensures in
+    subst (λ cert. length (cert_lines cert) < 4294967295) (sym read) (few_lines lives slots c.cells_are_few.ensures stand few)
 
 pub returns-clause-shape : goal.returns-clause-shape
 returns-clause-shape c own stand few named =
-    let crowd = c.args.crowd.now in
+    let lives = c.args.lives.now in
     let slots = c.args.slots.now in
-    let read : map slot_of c.in_ok-blocks.blocks.items ≡ reached crowd slots =
-    read_is crowd slots _ _ _ _ c.in_ok-blocks.ensures c.deref.ensures.value c.in_ok-names.ensures c.in_ok-count.ensures in
-    let confined = (c.each_slot_keeps_in.ensures (reached crowd slots)).1 (slots_stay crowd slots c.own_stays.ensures own stand) in
-    subst IsCert (sym read) (shaped crowd slots c.confined_has_shape.ensures confined (few_lines crowd slots c.cells_are_few.ensures stand few) few named)
+    let read : map slot_of c.in_ok-blocks.blocks.items ≡ reached lives slots =
+    read_is lives slots _ _ _ _ c.in_ok-blocks.ensures c.deref.ensures.value c.in_ok-names.ensures c.in_ok-count.ensures in
+    let confined = (c.each_slot_keeps_in.ensures (reached lives slots)).1 (slots_stay lives slots c.own_stays.ensures own stand) in
+    subst IsCert (sym read) (shaped lives slots c.confined_has_shape.ensures confined (few_lines lives slots c.cells_are_few.ensures stand few) few named)

@@ -5,4 +5,4 @@ use Rattle.slot_reach.proofs.slots.read_slots.Given as goal
 
 -- the slots before
 abbrev pub invariant-each : goal.invariant-each
-invariant-each l = map slot_of l.blocks.items ≡ map (slot_read l.names l.crowd) (take l.slot-index l.slots)
+invariant-each l = map slot_of l.blocks.items ≡ map (slot_read l.names l.lives) (take l.slot-index l.slots)

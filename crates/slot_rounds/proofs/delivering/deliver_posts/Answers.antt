@@ -9,9 +9,9 @@ use Rattle.post_rounds.specs.declared.posts.PostEvent.{PostEvent}
 use Rattle.post_rounds.specs.Events.{values}
 use Rattle.post_rounds.specs.News.{all_news}
 use Rattle.slot_laws.specs.Chains.{Chains}
-use Rattle.slot_picks.specs.declared.crowd.Place.{Place}
+use Rattle.slot_picks.specs.declared.lives.Place.{Place}
 use Rattle.slot_picks.specs.declared.slots.Slot.{Slot}
-use Rattle.slot_picks.specs.Crowds.{chains_of}
+use Rattle.slot_picks.specs.Lives.{chains_of}
 use Rattle.slot_picks.specs.Places.{homes_of, is_accepted}
 use Rattle.slot_rounds.specs.Feeding.{AreStill, sum_of}
 use Rattle.slot_rounds.specs.Posting.{fresh_of_lasts}

@@ -9,7 +9,7 @@ use Rattle.post_rounds.specs.declared.posts.PostEvent.{PostEvent}
 use Rattle.post_rounds.specs.Events.{values}
 use Rattle.slot_laws.specs.Chains.{last_life}
 use Rattle.slot_picks.specs.declared.slots.Slot.{Slot}
-use Rattle.slot_picks.specs.Crowds.{chains_of}
+use Rattle.slot_picks.specs.Lives.{chains_of}
 use Rattle.slot_picks.specs.Places.{homes_of}
 use Rattle.slot_rounds.specs.Feeding.{events_for}
 use Rattle.slot_rounds.proofs.Gathering.{map_get, some_get}

@@ -1,7 +1,7 @@
 use Rattle.std.proofs.Common.{◌≡◌, ℕ, false, length, map, take}
 use Rattle.std.specs.Prelude.{slice_get}
 use Rattle.post_rounds.specs.Events.{values}
-use Rattle.slot_picks.specs.Crowds.{chains_of}
+use Rattle.slot_picks.specs.Lives.{chains_of}
 use Rattle.slot_rounds.specs.Feeding.{counts_for, events_for, is_last}
 use Rattle.slot_rounds.specs.Posting.{AreAlike, HaveRound}
 use Rattle.slot_rounds.proofs.giving.give_slots.Given as goal

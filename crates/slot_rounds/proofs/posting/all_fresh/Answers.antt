@@ -7,7 +7,7 @@ use Rattle.std.proofs.lemmas.Option.{slice_get_read}
 use Rattle.post_rounds.specs.declared.posts.Post.{Post}
 use Rattle.slot_laws.specs.Chains.{last_life}
 use Rattle.slot_picks.specs.declared.slots.Slot.{Slot}
-use Rattle.slot_picks.specs.Crowds.{chains_of}
+use Rattle.slot_picks.specs.Lives.{chains_of}
 use Rattle.slot_picks.specs.Places.{homes_of}
 use Rattle.slot_rounds.specs.Posting.{fresh_of_lasts}
 use Rattle.slot_rounds.proofs.Gathering.{fresh_step}

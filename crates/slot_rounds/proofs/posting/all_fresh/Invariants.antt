@@ -1,5 +1,5 @@
 use Rattle.std.proofs.Common.{◌≡◌, map, take}
-use Rattle.slot_picks.specs.Crowds.{chains_of}
+use Rattle.slot_picks.specs.Lives.{chains_of}
 use Rattle.slot_rounds.specs.Posting.{fresh_of_lasts}
 use Rattle.slot_rounds.proofs.posting.all_fresh.Given as goal
 

@@ -8,7 +8,7 @@ use Rattle.post_rounds.specs.declared.posts.PostEvent.{PostEvent}
 use Rattle.post_rounds.specs.Events.{values}
 use Rattle.slot_laws.specs.Chains.{last_life}
 use Rattle.slot_picks.specs.declared.slots.Slot.{Slot}
-use Rattle.slot_picks.specs.Crowds.{chains_of}
+use Rattle.slot_picks.specs.Lives.{chains_of}
 use Rattle.slot_picks.specs.Places.{homes_of, is_accepted}
 use Rattle.slot_rounds.proofs.Gathering.{false_true, get_within, map_get, not_still, still_step}
 use Rattle.slot_rounds.proofs.Lasts.{chain_get, slot_some, slot_there}

@@ -2,7 +2,7 @@ use Rattle.std.proofs.Common.{◌≡◌, ◌<◌, ℕ, List, [], Some, map, true
 use Rattle.std.specs.Prelude.{slice_get, slice_index_or}
 use Rattle.post_rounds.specs.Events.{values}
 use Rattle.slot_laws.specs.Chains.{last_life}
-use Rattle.slot_picks.specs.Crowds.{chains_of}
+use Rattle.slot_picks.specs.Lives.{chains_of}
 use Rattle.slot_picks.specs.Places.{is_accepted}
 use Rattle.slot_rounds.proofs.posting.is_quiet.Given as goal
 

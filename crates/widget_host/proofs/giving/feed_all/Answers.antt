@@ -4,7 +4,7 @@ use Rattle.std.specs.List.{list_any}
 use Rattle.std.proofs.lemmas.Option.{slice_get_read}
 use Rattle.life_queue.specs.declared.life.Work.TheVariants as work
 use Rattle.slot_laws.specs.Chains.{last_life}
-use Rattle.slot_picks.specs.Crowds.{chains_of}
+use Rattle.slot_picks.specs.Lives.{chains_of}
 use Rattle.slot_picks.specs.Places.{homes_of}
 use Rattle.widget_host.specs.Feeding.{AreFed}
 use Rattle.widget_host.proofs.Fed.{all_fed, length_fed, no_slot_fed, same_here, same_then, slot_fed}

@@ -5,7 +5,7 @@ use Rattle.std.proofs.lemmas.Result.{on_ok_weaker}
 use Rattle.life_queue.specs.declared.life.Work.TheVariants as work
 use Rattle.slot_laws.specs.Chains.{last_life}
 use Rattle.slot_picks.specs.declared.slots.Slot.{Slot}
-use Rattle.slot_picks.specs.Crowds.{chains_of}
+use Rattle.slot_picks.specs.Lives.{chains_of}
 use Rattle.slot_picks.specs.Places.{homes_of}
 use Rattle.widget_host.specs.declared.items.HostItem.{HostItem}
 use Rattle.widget_host.specs.Feeding.{AreFed, work_of}

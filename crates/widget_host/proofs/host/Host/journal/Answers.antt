@@ -8,7 +8,7 @@ returns-clause-are c = refl
 
 pub returns-clause-short : goal.returns-clause-short
 unfolding IsHoused journal
-returns-clause-short c = λ housed unmarked. (housed.1 unmarked).slots.crowd.short
+returns-clause-short c = λ housed unmarked. (housed.1 unmarked).slots.lives.short
 
 pub returns-clause-joined : goal.returns-clause-joined
 unfolding IsHoused journal seens

@@ -18,7 +18,7 @@ pub returns-in-Ok-clause-housed : goal.returns-in-Ok-clause-housed
 unfolding IsHoused marked
 returns-in-Ok-clause-housed c =
     let old = c.args.self.now in
-    let new : Host = record old { crowd = c.pick_slot.new.crowd; slots = c.pick_slot.new.slots } in
+    let new : Host = record old { lives = c.pick_slot.new.lives; slots = c.pick_slot.new.slots } in
     let apart = apart_stays old new c.in-Ok.ensures.stays c.requires.housed.0 in (
       apart,
       λ unmarked. let whole = c.requires.housed.1 c.if-self.false in

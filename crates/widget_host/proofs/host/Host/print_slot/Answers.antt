@@ -23,7 +23,7 @@ unfolding IsHoused
 index-requires-2 c =
     let first : slice_get c.index.result.now.lives.items 0 ≡ Some c.present-v.result = subst (λ (vs : List ℕ). slice_get vs 0 ≡ Some c.present-v.result) c.deref.ensures.value c.present-v.ensures in
     let there = life_here c.args.self.now c.requires.housed.0 c.args.w c.index.result.now c.requires.there c.index.ensures c.present-v.result first in
-    omega (arith, there, c.args.self.now.crowd.places.ok.0)
+    omega (arith, there, c.args.self.now.lives.places.ok.0)
 
 pub print-requires : goal.print-requires
 unfolding IsHoused
@@ -38,7 +38,7 @@ returns-clause-ok c =
     on_ok_weaker c.print.result (λ printed.
     shown_here c.args.self.now c.requires.housed.0 c.args.w c.index.result.now c.requires.there c.index.ensures c.present-v.result first c.index-2.result.now c.index-2.ensures
     (λ t. Prints t c.args.out.now.items c.print.new.out.items)
-    (λ name home end lot is. subst (λ t. Prints t c.args.out.now.items c.print.new.out.items) (spot_shows c.args.self.now.crowd.shared.page c.index-2.result.now.root name home end lot is) printed)) c.print.ensures.ok
+    (λ name home end lot is. subst (λ t. Prints t c.args.out.now.items c.print.new.out.items) (spot_shows c.args.self.now.lives.shared.page c.index-2.result.now.root name home end lot is) printed)) c.print.ensures.ok
 
 pub returns-clause-part : goal.returns-clause-part
 unfolding IsHoused
@@ -47,4 +47,4 @@ returns-clause-part c =
     on_err_weaker c.print.result (λ printed.
     shown_here c.args.self.now c.requires.housed.0 c.args.w c.index.result.now c.requires.there c.index.ensures c.present-v.result first c.index-2.result.now c.index-2.ensures
     (λ t. PrintsPart t c.args.out.now.items c.print.new.out.items)
-    (λ name home end lot is. subst (λ t. PrintsPart t c.args.out.now.items c.print.new.out.items) (spot_shows c.args.self.now.crowd.shared.page c.index-2.result.now.root name home end lot is) printed)) c.print.ensures.part
+    (λ name home end lot is. subst (λ t. PrintsPart t c.args.out.now.items c.print.new.out.items) (spot_shows c.args.self.now.lives.shared.page c.index-2.result.now.root name home end lot is) printed)) c.print.ensures.part

@@ -16,7 +16,7 @@ returns-clause-states c =
     let h = c.args.self.now in
     let apart = c.requires.housed.0 in
     IfOk-weaker c.reach.result _ _ (λ cert told ends shown.
-    told apart.own apart.standing ∙ ap cert_of_states (c.lasts_are_told.ensures h.crowd h.slots.items ends (shown_are h h.slots.items ends shown)))
+    told apart.own apart.standing ∙ ap cert_of_states (c.lasts_are_told.ensures h.lives h.slots.items ends (shown_are h h.slots.items ends shown)))
     (rw c.deref.ensures.value at c.reach.ensures.states)
 
 pub returns-clause-confined : goal.returns-clause-confined

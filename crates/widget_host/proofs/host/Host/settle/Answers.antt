@@ -1,6 +1,6 @@
 use Rattle.std.proofs.Common.{◌≡◌, ◌+◌, ap, false, refl, subst, true}
 use Rattle.std.specs.Prelude.{is_ok}
-use Rattle.slot_picks.specs.Crowds.{PicksUntil}
+use Rattle.slot_picks.specs.Lives.{PicksUntil}
 use Rattle.widget_host.specs.declared.host.Host.{Host}
 use Rattle.widget_host.specs.Housed.{IsHoused, marked, no_pick, swaps}
 use Rattle.widget_host.proofs.Passed.{passes_until, wants_here}
@@ -20,7 +20,7 @@ pub returns-in-Ok-clause-housed : goal.returns-in-Ok-clause-housed
 unfolding IsHoused marked
 returns-in-Ok-clause-housed g c =
     let old = c.args.self.now in
-    let new : Host = record old { crowd = c.settle_slots.new.crowd; slots = c.settle_slots.new.slots } in
+    let new : Host = record old { lives = c.settle_slots.new.lives; slots = c.settle_slots.new.slots } in
     let apart = apart_stays old new c.in-Ok.ensures.stays c.requires.housed.0 in (
       apart,
       λ unmarked. let whole = c.requires.housed.1 c.if-self.false in
@@ -50,4 +50,4 @@ pub returns-in-Err-clause-passes : goal.returns-in-Err-clause-passes
 returns-in-Err-clause-passes g c =
     let ended : is_ok c.settle_slots.result ≡ false = ap is_ok c.in-Err.is in
     passes_until c.args.slice c.args.self.now false _ (λ e. absurd (let both : false ≡ true = e in cc))
-    (subst (λ b. PicksUntil c.args.slice c.args.self.now.crowd c.args.self.now.slots b c.settle_slots.new.crowd c.settle_slots.new.slots) ended c.settle_slots.ensures.passes)
+    (subst (λ b. PicksUntil c.args.slice c.args.self.now.lives c.args.self.now.slots b c.settle_slots.new.lives c.settle_slots.new.slots) ended c.settle_slots.ensures.passes)

@@ -16,4 +16,4 @@ returns-clause-counted c = λ housed. counted_at c.args.self.now housed
 
 pub returns-clause-raws : goal.returns-clause-raws
 unfolding IsHoused shared
-returns-clause-raws c = λ housed unmarked n lt. one_raw c.args.self.now.crowd.shared.store.cells n c.nodes_have_one_cell.ensures ((housed.1 unmarked).raws n lt)
+returns-clause-raws c = λ housed unmarked n lt. one_raw c.args.self.now.lives.shared.store.cells n c.nodes_have_one_cell.ensures ((housed.1 unmarked).raws n lt)

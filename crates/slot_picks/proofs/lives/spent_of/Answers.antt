@@ -1,6 +1,6 @@
 use Rattle.std.proofs.Common.{◌≡◌, ◌+◌, ◌-◌, ◌<◌, ◌^◌, ◌∙◌, ap, arith}
 use Rattle.slot_picks.proofs.Spending.{left_within, spent_fits, spent_none, spent_some}
-use Rattle.slot_picks.proofs.crowd.spent_of.Goals as goal
+use Rattle.slot_picks.proofs.lives.spent_of.Goals as goal
 
 pub overflow_sub-life : goal.overflow_sub-life
 overflow_sub-life c = left_within c.requires.fine.0 c.requires.fine.1 c.args.life.now c.in-Some.turn c.in-Some.is c.requires.fine.2

@@ -6,8 +6,8 @@ ghost use Rattle.turn_returns.specs.declared.turn.Shared.{Shared as SharedOf};
 ghost use Rattle.life_queue.specs.Fine.{FineLife, KeepsLife};
 ghost use Rattle.life_queue.specs.Lives.{life_seen};
 ghost use Rattle.life_picks.specs.Picking.{PicksLife};
-ghost use Rattle.slot_picks.specs.declared.crowd.Place.{Place as PlaceOf};
-ghost use Rattle.slot_picks.specs.Crowds.{FewCrowd, FineCrowd, KeepsCrowd, seens_of};
+ghost use Rattle.slot_picks.specs.declared.lives.Place.{Place as PlaceOf};
+ghost use Rattle.slot_picks.specs.Lives.{FewLives, FineLives, KeepsLivesAndPage, seens_of};
 ghost use Rattle.slot_picks.specs.Places.{lent};
 
 use code_units::Memory;
@@ -38,7 +38,7 @@ pub struct Place {
 /// life is its number as an owner. While a life is picked, the trees of its own scripts, and no others, are
 /// lent to what is shared.
 #[derive(Drop)]
-pub struct Crowd {
+pub struct Lives {
     pub shared: Shared,
     pub places: Vec<Place>,
     /// The last picks that were not idle.
@@ -60,13 +60,13 @@ fn spent_of(life: &Life) -> u64
 }
 
 /// What the life in this place has spent.
-pub fn spent_at(crowd: &Crowd, v: u32) -> u64
-    requires there { v < length crowd.now.places.items }
-    requires accepted { (p : PlaceOf) → slice_get crowd.now.places.items v ≡ Some p → p.life.accepted ≡ true }
-    requires fine { FineCrowd crowd.now }
-    ensures { (s : Seen) → slice_get (seens_of crowd.now) v ≡ Some s → result ≡ (image s).spent }
+pub fn spent_at(lives: &Lives, v: u32) -> u64
+    requires there { v < length lives.now.places.items }
+    requires accepted { (p : PlaceOf) → slice_get lives.now.places.items v ≡ Some p → p.life.accepted ≡ true }
+    requires fine { FineLives lives.now }
+    ensures { (s : Seen) → slice_get (seens_of lives.now) v ≡ Some s → result ≡ (image s).spent }
 {
-    spent_of(&crowd.places[v as usize].life)
+    spent_of(&lives.places[v as usize].life)
 }
 
 // One entry more; of a full journal the oldest is dropped, and no memory is wanted.
@@ -111,48 +111,48 @@ fn pick_lent(
 }
 
 // The life in a place is picked.
-fn pick_one(alloc: Global, crowd: &mut Crowd, v: u32, k: u32) -> Result<Picked, Memory>
-    requires there { v < length crowd.old.places.items }
+fn pick_one(alloc: Global, lives: &mut Lives, v: u32, k: u32) -> Result<Picked, Memory>
+    requires there { v < length lives.old.places.items }
     requires slice { 0 < k }
-    requires accepted { (p : PlaceOf) → slice_get crowd.old.places.items v ≡ Some p → p.life.accepted ≡ true }
-    requires fine { FineCrowd crowd.old }
-    ensures picked { IfOk result (λ r. PickedAt v k r (seens_of crowd.old) (seens_of crowd.new)) }
-    ensures fine { OnOk result (FineCrowd crowd.new) }
-    ensures few { OnOk result ((n : ℕ) → FewCrowd n crowd.old → FewCrowd n crowd.new) }
-    ensures accepted { (p : PlaceOf) → slice_get crowd.new.places.items v ≡ Some p → p.life.accepted ≡ true }
-    ensures length { length crowd.new.places.items ≡ length crowd.old.places.items }
-    ensures journal { crowd.new.journal.items ≡ crowd.old.journal.items }
-    ensures others { (u : ℕ) → u ≢ v → slice_get (seens_of crowd.new) u ≡ slice_get (seens_of crowd.old) u }
-    ensures stays { KeepsCrowd crowd.old crowd.new }
+    requires accepted { (p : PlaceOf) → slice_get lives.old.places.items v ≡ Some p → p.life.accepted ≡ true }
+    requires fine { FineLives lives.old }
+    ensures picked { IfOk result (λ r. PickedAt v k r (seens_of lives.old) (seens_of lives.new)) }
+    ensures fine { OnOk result (FineLives lives.new) }
+    ensures few { OnOk result ((n : ℕ) → FewLives n lives.old → FewLives n lives.new) }
+    ensures accepted { (p : PlaceOf) → slice_get lives.new.places.items v ≡ Some p → p.life.accepted ≡ true }
+    ensures length { length lives.new.places.items ≡ length lives.old.places.items }
+    ensures journal { lives.new.journal.items ≡ lives.old.journal.items }
+    ensures others { (u : ℕ) → u ≢ v → slice_get (seens_of lives.new) u ≡ slice_get (seens_of lives.old) u }
+    ensures stays { KeepsLivesAndPage lives.old lives.new }
 {
-    pick_lent(alloc, &mut crowd.shared, &mut crowd.places[v as usize], k)
+    pick_lent(alloc, &mut lives.shared, &mut lives.places[v as usize], k)
 }
 
 /// One place is picked, and its pick is kept. Where no file was accepted there is nothing to do. `Memory` keeps no
 /// pick.
-pub(crate) fn pick_kept(alloc: Global, crowd: &mut Crowd, v: u32, k: u32) -> Result<Picked, Memory>
-    requires there { v < length crowd.old.places.items }
+pub(crate) fn pick_kept(alloc: Global, lives: &mut Lives, v: u32, k: u32) -> Result<Picked, Memory>
+    requires there { v < length lives.old.places.items }
     requires slice { 0 < k }
-    requires fine { FineCrowd crowd.old }
+    requires fine { FineLives lives.old }
     ensures kept { IfOk result
-        (λ r. Kept v k r (seens_of crowd.old) (seens_of crowd.new) crowd.old.journal.items crowd.new.journal.items) }
-    ensures fine { OnOk result (FineCrowd crowd.new) }
-    ensures few { OnOk result ((n : ℕ) → FewCrowd n crowd.old → FewCrowd n crowd.new) }
-    ensures others { (u : ℕ) → u ≢ v → slice_get (seens_of crowd.new) u ≡ slice_get (seens_of crowd.old) u }
-    ensures still { OnErr result (crowd.new.journal.items ≡ crowd.old.journal.items) }
-    ensures stays { KeepsCrowd crowd.old crowd.new }
+        (λ r. Kept v k r (seens_of lives.old) (seens_of lives.new) lives.old.journal.items lives.new.journal.items) }
+    ensures fine { OnOk result (FineLives lives.new) }
+    ensures few { OnOk result ((n : ℕ) → FewLives n lives.old → FewLives n lives.new) }
+    ensures others { (u : ℕ) → u ≢ v → slice_get (seens_of lives.new) u ≡ slice_get (seens_of lives.old) u }
+    ensures still { OnErr result (lives.new.journal.items ≡ lives.old.journal.items) }
+    ensures stays { KeepsLivesAndPage lives.old lives.new }
 {
-    if !crowd.places[v as usize].life.accepted {
+    if !lives.places[v as usize].life.accepted {
         return Ok(Picked::Idle);
     }
-    let before = spent_at(crowd, v);
-    let picked = pick_one(alloc, crowd, v, k)?;
+    let before = spent_at(lives, v);
+    let picked = pick_one(alloc, lives, v, k)?;
     if let Picked::Idle = picked {
         return Ok(picked);
     }
-    let after = spent_at(crowd, v);
+    let after = spent_at(lives, v);
     keep(
-        &mut crowd.journal,
+        &mut lives.journal,
         PickEntry {
             widget: v,
             before,

@@ -4,16 +4,16 @@ use Rattle.std.proofs.lemmas.Option.{slice_get_read}
 use Rattle.std.proofs.lemmas.Result.{IfOk-weaker}
 use Rattle.js_names.specs.Code.{trees_of}
 use Rattle.life_queue.specs.Fine.{FineTurn, KeepsLife}
-use Rattle.slot_picks.specs.declared.crowd.Place.{Place}
+use Rattle.slot_picks.specs.declared.lives.Place.{Place}
 use Rattle.slot_picks.specs.Places.{lent}
 use Rattle.slot_picks.proofs.Keeping.{keeps_set}
 use Rattle.slot_picks.proofs.Picking.{fews_here, fine_number, fines_here, length_set, number_here, on_ok, others_seen, picked_at, set_there, turn_after}
-use Rattle.slot_picks.proofs.crowd.pick_one.Goals as goal
+use Rattle.slot_picks.proofs.lives.pick_one.Goals as goal
 
 pub pick_lent-requires-clause-widget : goal.pick_lent-requires-clause-widget
 pick_lent-requires-clause-widget c =
-    let h = c.args.crowd.now.shared in
-    let ls = c.args.crowd.now.places.items in
+    let h = c.args.lives.now.shared in
+    let ls = c.args.lives.now.places.items in
     let a = c.index_mut.result.now in
     let at : slice_get ls c.args.v ≡ Some a = slice_get_read ls (length ls) c.args.v a refl c.requires.there c.index_mut.ensures.value in
     let number : a.life.widget.number ≡ c.args.v = number_here h c.args.v ls a at (c.requires.accepted a at) c.requires.fine.fine in
@@ -21,16 +21,16 @@ pick_lent-requires-clause-widget c =
 
 pub pick_lent-requires-clause-fine : goal.pick_lent-requires-clause-fine
 pick_lent-requires-clause-fine c =
-    let h = c.args.crowd.now.shared in
-    let ls = c.args.crowd.now.places.items in
+    let h = c.args.lives.now.shared in
+    let ls = c.args.lives.now.places.items in
     let a = c.index_mut.result.now in
     let at : slice_get ls c.args.v ≡ Some a = slice_get_read ls (length ls) c.args.v a refl c.requires.there c.index_mut.ensures.value in
     fine_number h c.args.v ls a at (c.requires.accepted a at) c.requires.fine.fine
 
 pub returns-clause-picked : goal.returns-clause-picked
 returns-clause-picked c =
-    let h = c.args.crowd.now.shared in
-    let ls = c.args.crowd.now.places.items in
+    let h = c.args.lives.now.shared in
+    let ls = c.args.lives.now.places.items in
     let a = c.index_mut.result.now in
     let at : slice_get ls c.args.v ≡ Some a = slice_get_read ls (length ls) c.args.v a refl c.requires.there c.index_mut.ensures.value in
     let few : length ls ≤ 32 = omega (arith, c.requires.fine.places) in
@@ -40,8 +40,8 @@ returns-clause-picked c =
 
 pub returns-clause-fine : goal.returns-clause-fine
 returns-clause-fine c =
-    let h = c.args.crowd.now.shared in
-    let ls = c.args.crowd.now.places.items in
+    let h = c.args.lives.now.shared in
+    let ls = c.args.lives.now.places.items in
     let a = c.index_mut.result.now in
     let at : slice_get ls c.args.v ≡ Some a = slice_get_read ls (length ls) c.args.v a refl c.requires.there c.index_mut.ensures.value in
     let few : length ls ≤ 32 = omega (arith, c.requires.fine.places) in
@@ -55,8 +55,8 @@ returns-clause-fine c =
 
 pub returns-clause-few : goal.returns-clause-few
 returns-clause-few c =
-    let h = c.args.crowd.now.shared in
-    let ls = c.args.crowd.now.places.items in
+    let h = c.args.lives.now.shared in
+    let ls = c.args.lives.now.places.items in
     let a = c.index_mut.result.now in
     let at : slice_get ls c.args.v ≡ Some a = slice_get_read ls (length ls) c.args.v a refl c.requires.there c.index_mut.ensures.value in
     let few : length ls ≤ 32 = omega (arith, c.requires.fine.places) in
@@ -66,18 +66,18 @@ returns-clause-few c =
 
 pub returns-clause-accepted : goal.returns-clause-accepted
 returns-clause-accepted c =
-    let ls = c.args.crowd.now.places.items in
+    let ls = c.args.lives.now.places.items in
     let a = c.index_mut.result.now in
     let at : slice_get ls c.args.v ≡ Some a = slice_get_read ls (length ls) c.args.v a refl c.requires.there c.index_mut.ensures.value in
     λ l e. ap (λ (x : Place). x.life.accepted) (sym (set_there ls c.args.v a c.pick_lent.new.place l at e)) ∙ (c.pick_lent.ensures.kept.accepted ∙ c.requires.accepted a at)
 
 pub returns-clause-length : goal.returns-clause-length
-returns-clause-length c = length_set c.args.crowd.now.places.items c.args.v c.pick_lent.new.place
+returns-clause-length c = length_set c.args.lives.now.places.items c.args.v c.pick_lent.new.place
 
 pub returns-clause-others : goal.returns-clause-others
 returns-clause-others c =
-    let h = c.args.crowd.now.shared in
-    let ls = c.args.crowd.now.places.items in
+    let h = c.args.lives.now.shared in
+    let ls = c.args.lives.now.places.items in
     let a = c.index_mut.result.now in
     let at : slice_get ls c.args.v ≡ Some a = slice_get_read ls (length ls) c.args.v a refl c.requires.there c.index_mut.ensures.value in
     let few : length ls ≤ 32 = omega (arith, c.requires.fine.places) in
@@ -85,14 +85,14 @@ returns-clause-others c =
 
 pub returns-clause-stays : goal.returns-clause-stays
 returns-clause-stays c =
-    let h = c.args.crowd.now.shared in
+    let h = c.args.lives.now.shared in
     let m = c.pick_lent.new.shared in
-    let ls = c.args.crowd.now.places.items in
+    let ls = c.args.lives.now.places.items in
     let a = c.index_mut.result.now in
     let b = c.pick_lent.new.place in
     let at : slice_get ls c.args.v ≡ Some a = slice_get_read ls (length ls) c.args.v a refl c.requires.there c.index_mut.ensures.value in
     let number : a.life.widget.number ≡ c.args.v = number_here h c.args.v ls a at (c.requires.accepted a at) c.requires.fine.fine in
-    keeps_set c.args.crowd.now _ c.args.v a b at refl (omega (arith, c.requires.fine.places)) (c.requires.accepted a at) c.pick_lent.ensures.root c.pick_lent.ensures.told
+    keeps_set c.args.lives.now _ c.args.v a b at refl (omega (arith, c.requires.fine.places)) (c.requires.accepted a at) c.pick_lent.ensures.root c.pick_lent.ensures.told
     (subst (λ i. KeepsLife i (lent h a) (lent m b) a.life b.life) number c.pick_lent.ensures.kept) c.pick_lent.ensures.rest
     (subst (λ i. IfSome b.life.turn (FineTurn (trees_of b.codes.items) i m.store m.page b.life.grant)) number
     (turn_after (lent h a) (lent m b) a.life.widget.number c.args.k a.life b.life c.pick_lent.result c.pick_lent.ensures.picked c.pick_lent.ensures.none))

@@ -2,7 +2,7 @@ use Rattle.std.proofs.Common.{◌∙◌, subst, sym}
 use Rattle.std.proofs.lemmas.Result.{IfOk-weaker}
 use Rattle.life_queue.specs.Fine.{FineLife}
 use Rattle.slot_picks.proofs.Picking.{kept_lent, picks_lent}
-use Rattle.slot_picks.proofs.crowd.pick_lent.Goals as goal
+use Rattle.slot_picks.proofs.lives.pick_lent.Goals as goal
 
 pub pick_life-picked-requires-clause-fine : goal.pick_life-picked-requires-clause-fine
 pick_life-picked-requires-clause-fine c =
