@@ -1,6 +1,6 @@
 -- Sixteen lanes at once: which are of a kind, and the empty mask.
-use Rattle.std.proofs.Common.{◌≡◌, ℕ, ◌+◌, ◌%◌, ◌^◌, ◌<◌, ◌≤◌, ltb, eqb, ltb-true, ltb-false, Bool, true, false, cond, ◌&&◌, List, map, length, get_or, replicate, bit_or, bit_and, refl, sym, ap, ◌∙◌, arith}
-use Rattle.std.specs.Prelude.{◌||◌, ◌==◌, not, nat_le}
+use Rattle.std.proofs.Common.{◌≡◌, ℕ, suc, ◌+◌, ◌%◌, ◌^◌, ◌<◌, ◌≤◌, ltb, eqb, ltb-true, ltb-false, Bool, true, false, cond, ◌&&◌, List, map, length, get_or, replicate, bit_or, bit_and, refl, sym, ap, ◌∙◌, arith}
+use Rattle.std.specs.Prelude.{◌||◌, ◌==◌, not, nat_le, nat_lt}
 use Rattle.std.specs.Char.{is_digit}
 use Rattle.std.specs.Int.{is_in_range}
 use Rattle.std.proofs.lemmas.Bool.{lt-leb, le-leb, not-false}
@@ -8,7 +8,7 @@ use Rattle.std.proofs.lemmas.Bool.Decides.{nat_tests}
 use Rattle.std.proofs.lemmas.List.{length-map}
 use Rattle.std.proofs.lemmas.Simd.{zip2_splat, zip2_splat_left, zip2_of_maps, map-map, mask_l-mod, none_from_empty_mask}
 use lib.Lanes.{chunk, zip2, mask_l, top}
-use Rattle.code_units.specs.declared.runs.Kind.TheVariants.{Digit, Hexadecimal, Zero, Blank}
+use Rattle.code_units.specs.declared.runs.Kind.TheVariants.{Digit, Hexadecimal, Zero, Blank, Ascii}
 use Rattle.code_units.specs.Runs.{is_of}
 
 -- the lane of a unit: set where the unit fails a test
@@ -46,6 +46,13 @@ ne_lane u v = by (eqb u v)
     by : (b : Bool) → cond (not b) 65535 0 ≡ lane b
     by true = refl
     by false = refl
+
+above_lane : (u : ℕ) → cond (ltb 127 u) 65535 0 ≡ lane (nat_lt u 128)
+above_lane u = by (ltb 127 u) refl
+  where
+    by : (b : Bool) → ltb 127 u ≡ b → cond b 65535 0 ≡ lane (nat_lt u 128)
+    by true e = sym (ap lane (lt-leb (suc u) 128 (omega (arith, ltb-true 127 u e))))
+    by false e = sym (ap lane (le-leb (suc u) 128 (omega (arith, ltb-false 127 u e))))
 
 digit_in : (u : ℕ) → is_in_range 48 57 u ≡ is_digit u 10
 digit_in u = grind (arith, nat_tests)
@@ -99,6 +106,21 @@ module _ (v : List ℕ) (long : length v ≡ 16) where
   pub blank_bits : bitmask (zip2 bit_and (zip2 bit_or (below v 9) (above v 13)) (differ v 32)) ≡ mask_l (map (λ u. not (is_of Blank u)) v)
   blank_bits = bits (is_of Blank) v long _ (both_lanes (λ u. is_in_range 9 13 u) (λ u. u == 32) v _ _ (outside 9 13) (unlike 32))
 
+  pub ascii_bits : bitmask (above v 127) ≡ mask_l (map (λ u. not (is_of Ascii u)) v)
+  ascii_bits = bits (is_of Ascii) v long _ (zip2_splat_left (λ a b. cond (ltb a b) 65535 0) 127 16 v long ∙ (λ j. map (λ u. above_lane u j) v))
+
 -- where no bit is set, each unit under the load passes
 pub all_pass : (q : ℕ → Bool) (us : List ℕ) (at : ℕ) → at + 16 ≤ length us → mask_l (map (λ u. not (q u)) (chunk at 16 us)) ≡ 0 → (k : ℕ) → at ≤ k → k < at + 16 → q (get_or us k 0) ≡ true
 all_pass q us at room none k from to = not-false (q (get_or us k 0)) (none_from_empty_mask (λ u. not (q u)) us at 16 0 room none k from to)
+
+-- a byte is ASCII where it is at most 127
+byte_top : (u : ℕ) → top 7 (cond (ltb 127 u) 255 0) ≡ not (nat_lt u 128)
+byte_top u = by (ltb 127 u) refl
+  where
+    by : (b : Bool) → ltb 127 u ≡ b → top 7 (cond b 255 0) ≡ not (nat_lt u 128)
+    by true e = sym (ap not (lt-leb (suc u) 128 (omega (arith, ltb-true 127 u e))))
+    by false e = sym (ap not (le-leb (suc u) 128 (omega (arith, ltb-false 127 u e))))
+
+-- a bit for each byte that is not ASCII
+pub byte_bits : (v : List ℕ) → length v ≡ 16 → mask_l (map (top 7) (zip2 (λ a b. cond (ltb a b) 255 0) (replicate 16 127) v)) % 2 ^ 64 ≡ mask_l (map (λ u. not (nat_lt u 128)) v)
+byte_bits v long = mask_is 7 (λ u. nat_lt u 128) (λ u. cond (ltb 127 u) 255 0) byte_top v long _ (zip2_splat_left (λ a b. cond (ltb a b) 255 0) 127 16 v long)

@@ -1,3 +1,4 @@
+pub mod AsciiRuns
 pub mod Cuts
 pub mod Fed
 pub mod Forms

@@ -23,6 +23,6 @@ pub use owner::{Owner, WIDGETS};
 pub use permission::{has_edge_underscore, is_banned, permitted};
 pub use place::{Place, place_in, place_of};
 pub use text::Text;
-pub use utf8::{TextFault, from_utf8_bytes, push_utf8};
+pub use utf8::{TextFault, from_utf8_bytes, push_utf8, utf8_len};
 pub use whole::{WholeRead, read_whole, whole_text};
 pub use word::{begins_with, is_word, spells};

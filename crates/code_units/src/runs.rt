@@ -1,6 +1,7 @@
 //! Runs of units of one kind, sixteen units at a time.
 
 ghost use Rattle.std.specs.Prelude.{◌≡◌, ℕ, ◌+◌, ◌-◌, ◌<◌, ◌≤◌, true, not, IsTrue, length, map, slice_index};
+ghost use Rattle.std.specs.Char.{is_ascii};
 ghost use Rattle.std.specs.List.{prefix_len, suffix_len};
 ghost use Rattle.std.specs.Simd.Lanes.{mask_l};
 ghost use Rattle.code_units.specs.Runs.{is_of};
@@ -19,6 +20,8 @@ pub(crate) enum Kind {
     Zero,
     /// A blank.
     Blank,
+    /// A unit below 128.
+    Ascii,
 }
 
 // How many units are tested at once.
@@ -43,6 +46,18 @@ pub(crate) fn without_run(units: &[u16], kind: Kind) -> usize
     let mut end = without_blocks(units, kind);
     while end > 0 && is_of(units[end - 1], kind) {
         end -= 1;
+    }
+    end
+}
+
+/// How many ASCII bytes the bytes begin with.
+pub(crate) fn ascii_len(bytes: &[u8]) -> usize
+    ensures len { result ≡ prefix_len is_ascii bytes.now }
+    ensures within { result ≤ length bytes.now }
+{
+    let mut end = ascii_blocks(bytes);
+    while end < bytes.len() && bytes[end] < 128 {
+        end += 1;
     }
     end
 }
@@ -97,6 +112,7 @@ fn others(v: u16x16, kind: Kind) -> u64
         Kind::Zero => v.simd_ne(u16x16::splat(48)).to_bitmask(),
         Kind::Blank => ((v.simd_lt(u16x16::splat(9)) | v.simd_gt(u16x16::splat(13)))
             & v.simd_ne(u16x16::splat(32))).to_bitmask(),
+        Kind::Ascii => v.simd_gt(u16x16::splat(127)).to_bitmask(),
     }
 }
 
@@ -108,5 +124,28 @@ fn is_of(unit: u16, kind: Kind) -> bool
         Kind::Hexadecimal => digit_value(unit) < 16,
         Kind::Zero => unit == 48,
         Kind::Blank => matches!(unit, 9..=13 | 32),
+        Kind::Ascii => unit < 128,
     }
+}
+
+// How many bytes whole blocks of ASCII take at the start.
+fn ascii_blocks(bytes: &[u8]) -> usize
+    ensures within { result ≤ length bytes.now }
+    ensures same { (k : ℕ) → k < result → is_ascii (slice_index bytes.now k) ≡ true }
+{
+    let mut end = 0;
+    while bytes.len() - end >= LANES && is_ascii_block(bytes, end) {
+        end += LANES;
+    }
+    end
+}
+
+// Whether the bytes of one block from the place on are ASCII.
+#[inline]
+fn is_ascii_block(bytes: &[u8], at: usize) -> bool
+    requires { at + LANES ≤ length bytes.now }
+    ensures { IsTrue result → (k : ℕ) → at ≤ k → k < at + LANES → is_ascii (slice_index bytes.now k) ≡ true }
+{
+    let block = u8x16::from_slice(&bytes[at..]);
+    block.simd_gt(u8x16::splat(127)).to_bitmask() == 0
 }

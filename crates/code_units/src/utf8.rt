@@ -1,15 +1,20 @@
 //! Texts from UTF-8 and back.
-ghost use Rattle.std.specs.Prelude.{◌≡◌, false, ◌+◌, MatchOption, IfSome, unwrap_or, slice_index, IfOk, IfErr, OnOk, OnErr, ◌∷◌, ◌++◌, ◌<◌, ◌≤◌, length, take, drop, IsUtf8, encode_utf8};
+
+ghost use Rattle.std.specs.Prelude.{◌≡◌, ℕ, List, false, ◌+◌, ◌*◌, MatchOption, IfSome, unwrap_or, slice_index, IfOk, IfErr, OnOk, OnErr, ◌∷◌, ◌++◌, ◌<◌, ◌≤◌, length, take, drop, IsUtf8, encode_utf8};
 ghost use Rattle.std.specs.Vec.{vec_len};
 ghost use Rattle.std.specs.Char.Utf16.{has_unpaired_surrogate, utf16_lossy_chars, lone_unit_char, surrogate_pair_char};
 ghost use Rattle.code_units.specs.declared.utf8.TextFault.TheVariants.{Memory as out_of_memory};
 ghost use Rattle.code_units.specs.Utf8.{units_of, utf8_of, IsSurrogatePair, IsTextFault};
 
-use crate::grown::push_char;
+use crate::grown::{push_ascii, push_bytes, push_char};
 use crate::memory::Memory;
+use crate::runs::{Kind, ascii_len, run};
 use crate::text::Text;
 use std::alloc::{AllocError, Global};
 use thiserror::Error;
+
+// How many bytes or units are taken one character at a time before ASCII is looked for again.
+const MOST: usize = 16;
 
 /// Why bytes gave no text.
 #[derive(Clone, Copy, PartialEq, Eq, Debug, Drop, Error)]
@@ -62,10 +67,46 @@ impl Text {
 fn push_units(units: &mut Vec<u16>, text: &str) -> Result<(), Memory>
     ensures { OnOk result (units.new.items ≡ units.old.items ++ units_of text.now) }
 {
-    for c in text.chars() {
-        push_char(units, c)?;
+    let mut at = 0;
+    while at < text.len() {
+        at = push_units_at(units, text, at)?;
     }
     Ok(())
+}
+
+// Appends the units of the ASCII at a place and of some characters more, and gives where they end.
+fn push_units_at(units: &mut Vec<u16>, text: &str, at: usize) -> Result<usize, Memory>
+    requires within { at < length text.now }
+    requires place { IsUtf8 (drop at text.now) }
+    ensures next { IfOk result (λ next. (at < next) × (next ≤ length text.now)) }
+    ensures place { IfOk result (λ next. IsUtf8 (drop next text.now)) }
+    ensures units { IfOk result (λ next.
+        units.new.items ++ units_of (drop next text.now) ≡ units.old.items ++ units_of (drop at text.now)) }
+{
+    let bytes = text.as_bytes();
+    let end = at + ascii_len(&bytes[at..]);
+    push_ascii(units, &bytes[at..end])?;
+    push_chars(units, text, end)
+}
+
+// Appends the units of the first characters from a place on, and gives where they end.
+fn push_chars(units: &mut Vec<u16>, text: &str, from: usize) -> Result<usize, Memory>
+    requires within { from ≤ length text.now }
+    requires place { IsUtf8 (drop from text.now) }
+    ensures next { IfOk result (λ next. (from ≤ next) × (next ≤ length text.now) × (from < length text.now → from < next)) }
+    ensures place { IfOk result (λ next. IsUtf8 (drop next text.now)) }
+    ensures units { IfOk result (λ next.
+        units.new.items ++ units_of (drop next text.now) ≡ units.old.items ++ units_of (drop from text.now)) }
+{
+    let mut at = from;
+    while at < text.len() && at - from < MOST {
+        let Some(c) = text[at..].chars().next() else {
+            return Ok(at);
+        };
+        push_char(units, c)?;
+        at += c.len_utf8();
+    }
+    Ok(at)
 }
 
 /// Appends the text in UTF-8, each lone surrogate as U+FFFD. A refusal leaves `out` as it was.
@@ -78,7 +119,7 @@ pub fn push_utf8(text: &Text, out: &mut Vec<u8>) -> Result<(), Memory>
     ensures back { has_unpaired_surrogate text.now ≡ false → units_of (utf8_of text.now) ≡ text.now }
 {
     let before = out.len();
-    match push_bytes(text.units(), out) {
+    match push_encoded(text.units(), out) {
         Ok(()) => Ok(()),
         Err(_) => {
             out.truncate(before);
@@ -87,8 +128,44 @@ pub fn push_utf8(text: &Text, out: &mut Vec<u8>) -> Result<(), Memory>
     }
 }
 
+/// How many bytes `push_utf8` appends for the text.
+pub fn utf8_len(text: &Text) -> usize
+    ensures { result ≡ length (utf8_of text.now) }
+{
+    encoded_len(text.units())
+}
+
+// How many bytes units take in UTF-8.
+fn encoded_len(units: &[u16]) -> usize
+    ensures { result ≡ length (utf8_of units.now) }
+{
+    let mut at = 0;
+    let mut bytes = 0;
+    while at < units.len() {
+        let (more, next) = encoded_len_at(units, at);
+        bytes += more;
+        at = next;
+    }
+    bytes
+}
+
+// How many bytes the ASCII at a place takes, or the code point where none stands there, and where it ends.
+fn encoded_len_at(units: &[u16], at: usize) -> (usize, usize)
+    requires { at < length units.now }
+    ensures next { (at < result.1) × (result.1 ≤ length units.now) }
+    ensures most { result.0 + 4 * at ≤ 4 * result.1 }
+    ensures len { result.0 + length (utf8_of (drop result.1 units.now)) ≡ length (utf8_of (drop at units.now)) }
+{
+    let ascii = run(&units[at..], Kind::Ascii);
+    if ascii > 0 {
+        return (ascii, at + ascii);
+    }
+    let (c, next) = char_at(units, at);
+    (c.len_utf8(), next)
+}
+
 // Appends units in UTF-8. Where memory runs out, some of the bytes may have been appended.
-fn push_bytes(units: &[u16], out: &mut Vec<u8>) -> Result<(), AllocError>
+fn push_encoded(units: &[u16], out: &mut Vec<u8>) -> Result<(), AllocError>
     ensures ok { OnOk result (out.new.items ≡ out.old.items ++ utf8_of units.now) }
     ensures err { OnErr result (take (vec_len out.old) out.new.items ≡ out.old.items) }
     ensures valid { IsUtf8 (utf8_of units.now) }
@@ -96,15 +173,42 @@ fn push_bytes(units: &[u16], out: &mut Vec<u8>) -> Result<(), AllocError>
 {
     let mut at = 0;
     while at < units.len() {
-        let (c, next) = char_at(units, at);
-        push_encoded(out, c)?;
-        at = next;
+        at = push_encoded_at(units, at, out)?;
     }
     Ok(())
 }
 
+// Appends the ASCII at a place and some code points more in UTF-8, and gives where they end. Where memory
+// runs out, some of the bytes may have been appended.
+fn push_encoded_at(units: &[u16], at: usize, out: &mut Vec<u8>) -> Result<usize, AllocError>
+    requires { at < length units.now }
+    ensures next { IfOk result (λ next. (at < next) × (next ≤ length units.now)) }
+    ensures ok { IfOk result (λ next. out.new.items ++ utf8_of (drop next units.now) ≡ out.old.items ++ utf8_of (drop at units.now)) }
+    ensures front { (more : List ℕ) × (out.new.items ≡ out.old.items ++ more) }
+{
+    let end = at + run(&units[at..], Kind::Ascii);
+    push_bytes(out, &units[at..end])?;
+    push_code_points(units, end, out)
+}
+
+// Appends the first code points from a place on in UTF-8, and gives where they end.
+fn push_code_points(units: &[u16], from: usize, out: &mut Vec<u8>) -> Result<usize, AllocError>
+    requires { from ≤ length units.now }
+    ensures next { IfOk result (λ next. (from ≤ next) × (next ≤ length units.now) × (from < length units.now → from < next)) }
+    ensures ok { IfOk result (λ next. out.new.items ++ utf8_of (drop next units.now) ≡ out.old.items ++ utf8_of (drop from units.now)) }
+    ensures front { (more : List ℕ) × (out.new.items ≡ out.old.items ++ more) }
+{
+    let mut at = from;
+    while at < units.len() && at - from < MOST {
+        let (c, next) = char_at(units, at);
+        push_code_point(out, c)?;
+        at = next;
+    }
+    Ok(at)
+}
+
 // Appends a code point in UTF-8.
-fn push_encoded(out: &mut Vec<u8>, c: char) -> Result<(), AllocError>
+fn push_code_point(out: &mut Vec<u8>, c: char) -> Result<(), AllocError>
     ensures ok { OnOk result (out.new.items ≡ out.old.items ++ encode_utf8 c) }
     ensures err { OnErr result (out.new.items ≡ out.old.items) }
 {

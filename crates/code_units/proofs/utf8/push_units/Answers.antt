@@ -1,11 +1,5 @@
-use Rattle.std.proofs.Common.{◌∙◌, sym}
-use Rattle.std.proofs.lemmas.Iterator.{YieldsList-from_chars}
-use Rattle.std.proofs.lemmas.Iterator.Consumers.{YieldsList-end}
-use Rattle.std.proofs.lemmas.List.{map-id}
-use Rattle.code_units.proofs.Utf8Laws.{units_of-read}
+use Rattle.code_units.proofs.AsciiRuns.{units_done}
 use Rattle.code_units.proofs.utf8.push_units.Goals as goal
 
 pub returns : goal.returns
-returns c =
-    let read = YieldsList-end (YieldsList-from_chars c.args.text.now c.utf8.text cc) c.loop-c.yielded _ c.loop-c.yielded_by _ _ c.in-None.is c.next.ensures.steps in
-    units_of-read c.args.text.now c.loop-c.yielded c.loop-c.units.items c.args.units.now.items (sym (map-id c.loop-c.yielded) ∙ read.0) c.loop-c.invariant
+returns c = units_done c.loop-at.units.items _ c.args.text.now c.loop-at.at c.loop-at-test.false c.loop-at.invariant.whole

@@ -1,6 +1,12 @@
-use Rattle.std.proofs.Common.{◌≡◌, ◌++◌}
-use Rattle.code_units.specs.Utf8.{units_of_chars}
+use Rattle.std.proofs.Common.{◌≡◌, ◌++◌, ◌-◌, length, drop, IsUtf8}
+use Rattle.code_units.specs.Utf8.{units_of}
 use Rattle.code_units.proofs.utf8.push_units.Given as goal
 
-abbrev pub invariant-loop-c : goal.invariant-loop-c
-invariant-loop-c l = l.units.items ≡ l.initial.units.items ++ units_of_chars l.yielded
+abbrev pub invariant-loop-at : goal.invariant-loop-at
+invariant-loop-at l = record {
+  place : IsUtf8 (drop l.at l.text);
+  whole : l.units.items ++ units_of (drop l.at l.text) ≡ l.initial.units.items ++ units_of l.text;
+}
+
+abbrev pub decreases-loop-at : goal.decreases-loop-at
+decreases-loop-at l = length l.text - l.at

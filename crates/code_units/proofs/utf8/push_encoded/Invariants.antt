@@ -1,6 +1,6 @@
 use Rattle.std.proofs.Common.{◌≡◌, ◌++◌, ◌-◌, length, drop, List, ℕ}
 use Rattle.code_units.specs.Utf8.{utf8_of}
-use Rattle.code_units.proofs.utf8.push_bytes.Given as goal
+use Rattle.code_units.proofs.utf8.push_encoded.Given as goal
 
 abbrev pub invariant-loop-at : goal.invariant-loop-at
 invariant-loop-at l = record {
