@@ -1,5 +1,5 @@
 -- The rooms of natives that need the store alone.
-use Rattle.std.specs.Prelude.{◌≡◌, true, false, Option, None, Some}
+use Rattle.std.specs.Prelude.{◌≡◌, Bool, true, false, not, ◌&&◌, ◌||◌, Option, None, Some}
 use Rattle.permitted_table.specs.declared.native.NativeId.{NativeId}
 use Rattle.permitted_table.specs.declared.native.NativeId.TheVariants as native
 use Rattle.permitted_table.specs.declared.native.AdsafeNative.{AdsafeNative}
@@ -17,6 +17,10 @@ abbrev pub IsOf : StoreRoom → NativeId → Type 0
 IsOf room.Texts which = texts.is_part which ≡ true
 IsOf room.Lists which = lists.is_part which ≡ true
 IsOf room.Adsafe which = (adsafe.is_part which ≡ true) × (adsafe.keeps_note which ≡ false)
+
+-- whether a native needs the store alone: it stands in one of these crates, and keeps no note
+abbrev pub needs_store : NativeId → Bool
+needs_store which = texts.is_part which || lists.is_part which || (adsafe.is_part which && not (adsafe.keeps_note which))
 
 -- the room of a native of prototypes
 abbrev pub prototype_room : PrototypeNative → StoreRoom

@@ -1,5 +1,5 @@
 //! The call of a native that needs the store alone.
-ghost use Rattle.std.specs.Prelude.{◌≡◌, ◌<◌, List, Some, IfNone, IfOk, IfSome, OnErr};
+ghost use Rattle.std.specs.Prelude.{◌≡◌, ◌+◌, ◌<◌, List, Some, IfNone, IfOk, IfSome, OnErr};
 ghost use Rattle.std.specs.Option.{option_map};
 ghost use Rattle.js_tree.specs.Forest.{Forest};
 ghost use Rattle.widget_meaning.specs.Natives.{run_native};
@@ -21,8 +21,8 @@ use std::alloc::Global;
 /// A native that needs no more than the store, for widget `w`, with its unit taken: one of texts, numbers, truth
 /// values, `Math` or lists, one of `ADSAFE` but `log`, `later` and `post`, or `hasOwnProperty` (docs/LANGUAGE.md,
 /// "Natives"). `this` is its receiver, if it has one. None where it is another, or where its fuel is wanting: then
-/// nothing has changed. Else it took its extra, and what is given is left of it; handlers are not asked for. After
-/// `Memory` too, all that the widget holds is its own, and others have what they had.
+/// nothing has changed. Else it took its extra, all of which was spent, and what is given is left of it; handlers are
+/// not asked for. After `Memory` too, all that the widget holds is its own, and others have what they had.
 pub fn call(
     alloc: Global,
     w: u32,
@@ -40,6 +40,7 @@ pub fn call(
         (run_native which (option_map (seen w store.old.cells) this.now) (all_seen w store.old.cells args.now))))) }
     ensures done { IfOk result (λ o. IfSome o (Done w store.old store.new meter.old.left meter.new.left
         (run_native which (option_map (seen w store.old.cells) this.now) (all_seen w store.old.cells args.now)))) }
+    ensures spent { IfOk result (λ o. meter.new.left + meter.new.spent ≡ meter.old.left + meter.old.spent) }
     ensures kept { (fs : List Forest) → Kept fs w store.old store.new }
 {
     let Some(room) = store_room(which) else {

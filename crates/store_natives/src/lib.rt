@@ -4,9 +4,11 @@
 
 mod calling;
 mod carrying;
+mod laws;
 mod receiving;
 mod rooms;
 
 pub use calling::call;
+pub use laws::rooms_are_whole;
 pub use receiving::{GLOBAL, receiver_of};
 pub use rooms::{StoreRoom, store_room};

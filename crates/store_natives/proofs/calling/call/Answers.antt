@@ -43,3 +43,6 @@ returns-clause-done c =
     let this = receiver w s.cells c.receiver_of-this.result.now in
     let out = carried_done w s n.store c.args.meter.now n.meter (run_native c.args.which this vs) c.requires.confined.0 c.requires.confined.1 c.in_ok-out.out c.in_ok-out.ensures.native in
     subst (λ (u : Option Value). Carried u c.carried.result) c.receiver_of-this.ensures.same (subst (Carried this) (sym c.carried.ensures) out)
+
+pub returns-clause-spent : goal.returns-clause-spent
+returns-clause-spent c = c.in_ok-out.ensures.native.spent
