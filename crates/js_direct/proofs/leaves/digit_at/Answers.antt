@@ -1,6 +1,8 @@
-use Rattle.std.proofs.Common.{arith}
-use Rattle.js_direct.proofs.Numerals.{digit_unit}
+use Rattle.std.proofs.Common.{◌∷◌, [], arith}
+use Rattle.js_direct.proofs.Numerals.{digits_number}
 use Rattle.js_direct.proofs.leaves.digit_at.Goals as goal
 
 pub returns : goal.returns
-returns c = digit_unit c.args.unit (omega (arith, c.if-unit-lt48.false)) (omega (arith, c.if-unit-gt57.false))
+returns c =
+    let d = c.in_ok-value_of.ensures in
+    digits_number (c.args.unit ∷ []) c.in_ok-value_of.field-0 (omega arith) (omega arith) ((omega (arith, d.0, d.1), tt), omega (arith, d.0))

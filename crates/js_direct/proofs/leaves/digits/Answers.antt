@@ -2,7 +2,7 @@ use Rattle.std.proofs.Common.{ap, ◌∙◌}
 use Rattle.std.proofs.lemmas.Option.{IfSome_then}
 use Rattle.code_units.specs.Whole.{number_in}
 use Rattle.js_direct.proofs.Numerals.{one_unit}
-use Rattle.js_direct.proofs.leaves.digit.Goals as goal
+use Rattle.js_direct.proofs.leaves.digits.Goals as goal
 
 pub returns-in-len1 : goal.returns-in-len1
 returns-in-len1 c =
