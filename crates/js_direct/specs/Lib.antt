@@ -1,3 +1,4 @@
+pub mod Adds
 pub mod Argues
 pub mod Comes
 pub mod Goes

@@ -20,14 +20,15 @@ ghost use Rattle.js_direct.specs.Comes.{Comes, IsReady};
 
 use crate::forms::{eval_on, operand_on};
 use crate::operators::operate_on;
-use crate::run::{Ended, Here, Run, share_to, take_value, wait};
+use crate::run::{Ended, Here, Run, set_value, share_to, take_value, wait};
+use crate::summing::added;
 use crate::targets::{referred, take_reference, target_on};
 use crate::writing::{wait_written, write_value};
 use code_units::{Memory, Text};
 use js_flow::{Assigning, FormFrame, Frame, Job, Place, Reference};
 use js_image::{assign, variable_at};
 use js_tree::{AssignOp, BinOp, Expr, ExprId};
-use object_store::{Store, Value};
+use object_store::{Number, Store, Value};
 
 /// An assignment, after its unit.
 #[inline(never)]
@@ -97,10 +98,46 @@ fn assign_by(
     }
 }
 
-// An assignment to a variable that computes; its target has its unit. What the variable has is read first.
+// An assignment to a variable that computes; its target has its unit.
 #[inline(always)]
 #[cycle(direct)]
 fn compute_name(
+    here: &Here,
+    run: &mut Run,
+    store: &mut Store,
+    name: &Text,
+    by: (AssignOp, ExprId),
+    deep: u32,
+    out: &mut Value,
+) -> Result<Ended, Memory>
+    requires ready { IsReady (trees_of here.now.site.now.codes.now.items) here.now.site.now.widget store.old run.old }
+    requires held { IsExprAt (trees_of here.now.site.now.codes.now.items) here.now.site.now.widget store.old.cells
+        by.1 here.now.at }
+    requires tree { trees here.now.tree.now ≡ forest_at (trees_of here.now.site.now.codes.now.items) here.now.at.code }
+    ensures comes { let F = trees_of here.now.site.now.codes.now.items in let w = here.now.site.now.widget in
+        IfOk result (λ how. Comes F w store.old store.new 12
+        (form_taken F w store.old.cells (FormFrame.AssignTarget by.0 by.1 here.now.at)
+        (meaning.Refers (reference_of w store.old.cells (Reference.Variable name.now))))
+        run.old run.new how out.new) }
+    ensures kept { Kept (trees_of here.now.site.now.codes.now.items) here.now.site.now.widget store.old store.new }
+{
+    if run.units == 0 {
+        return compute_any(here, run, store, name, by, deep, out);
+    }
+    match added(here, store, name, by) {
+        Some(z) => {
+            run.units -= 1;
+            set_value(out, Value::Num(Number::Whole(z)));
+            Ok(Ended::Is)
+        }
+        None => compute_any(here, run, store, name, by, deep, out),
+    }
+}
+
+// The same of any right side. What the variable has is read first.
+#[inline(always)]
+#[cycle(direct)]
+fn compute_any(
     here: &Here,
     run: &mut Run,
     store: &mut Store,

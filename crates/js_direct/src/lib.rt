@@ -28,6 +28,7 @@ mod properties;
 mod run;
 mod statements;
 mod stepping;
+mod summing;
 mod targets;
 mod wholes;
 mod writing;

@@ -1,4 +1,7 @@
 use Rattle.store_cells.specs.declared.value.Value.TheVariants as value
+use Rattle.store_cells.specs.declared.value.Number.TheVariants as number
+use mir.Val.{of_z, to_z}
+use mir.Syntax.{w64}
 use Rattle.js_flow.specs.declared.job.Job.TheVariants as job
 use Rattle.js_flow.specs.declared.frame.Frame.TheVariants as frame
 use Rattle.js_flow.specs.declared.frame.FormFrame.TheVariants as form
@@ -18,7 +21,7 @@ use Rattle.js_tree.specs.declared.nodes.Expr.TheVariants as expr
 use Rattle.widget_meaning.specs.Operators as operators
 use Rattle.widget_meaning.specs.Scopes as scopes
 use Rattle.js_direct.proofs.+direct.Goals as goal
-use Rattle.std.proofs.Common.{Bool, List, None, [], ap, arith, drop, if◌then◌else◌, length, refl, rules, subst, suc, sym, true, ℕ, ◌++◌, ◌+◌, ◌-◌, ◌<◌, ◌∙◌, ◌∷◌, ◌≡◌}
+use Rattle.std.proofs.Common.{Bool, List, None, [], ap, arith, drop, if◌then◌else◌, length, refl, rules, subst, suc, sym, true, ℕ, ℤ, ◌++◌, ◌+◌, ◌-◌, ◌<◌, ◌∙◌, ◌∷◌, ◌≡◌}
 use Rattle.std.proofs.lemmas.Result.{IfOk-weaker}
 use Rattle.js_tree.specs.Forest.{Forest, IsStmt, expr_at, fun_at, plain_expr, plain_form, plain_stmt, plain_stmt_form, stmt_at}
 use Rattle.js_tree.specs.declared.nodes.Stmt.{Stmt as StmtNode}
@@ -29,6 +32,7 @@ use Rattle.widget_meaning.specs.Plan.{Do, Eval, ForInLoop, Halt, Pass, Plan, Ret
 use Rattle.widget_meaning.specs.Values.{E1, Value}
 use Rattle.js_image.specs.Image.{Rest, all_seen, function_in, image, no_rest, seen}
 use Rattle.js_image.specs.Plans.{IsScopeMade, made_plan, meant_cause, scope_of, scope_plan}
+use Rattle.js_direct.proofs.Adding.{sum_comes}
 use Rattle.js_image.proofs.Units.{kept_then}
 use Rattle.js_names.specs.Code.{trees_of}
 use Rattle.js_flow.specs.Parts.{HasStmt, IsBlock, arguments_of, block_list, catch_body, catch_of, clauses_of, decls_of, elements_of, else_of, finally_body, finally_of, forest_at, loop_body, loop_of, properties_of, then_of, variable_of}
@@ -49,7 +53,7 @@ use Rattle.js_tree.specs.Trees.{trees}
 use Rattle.js_tree.specs.declared.nodes.Expr.{Expr}
 use Rattle.js_direct.proofs.Reaching.{at_eval, at_target, found_form, goes_on, goes_past, less_one, no_value, node_same, parts_at}
 use Rattle.js_direct.proofs.Handing.{hand_form, hand_ok, hand_target, hands, passes_normal, passes_value, placed_ok}
-use Rattle.store_cells.specs.Cells.{PlainCell}
+use Rattle.store_cells.specs.Cells.{Cells, PlainCell}
 use Rattle.js_flow.specs.declared.frame.Assigning.{Assigning}
 use Rattle.js_flow.specs.Statements.{block_at, clause_tested, declared, loop_again, loop_next}
 use Rattle.widget_meaning.specs.Calls.{call_end, enter, invoke, statements}
@@ -724,8 +728,67 @@ assigning::compute_with-returns-in_default t c =
       kept = c.operand_on.ensures.kept;
     }
 
-pub assigning::compute_name-compute_with-requires : goal.assigning::compute_name-compute_with-requires
-assigning::compute_name-compute_with-requires t c =
+pub assigning::compute_name-compute_any-requires : goal.assigning::compute_name-compute_any-requires
+assigning::compute_name-compute_any-requires t c = (search rules, (c.requires.ready, (c.requires.held, c.requires.tree)))
+
+pub assigning::compute_name-compute_any-requires-in-None : goal.assigning::compute_name-compute_any-requires-in-None
+assigning::compute_name-compute_any-requires-in-None t c =
+    let fs = trees_of c.args.here.now.site.now.codes.now.items in
+    let w = c.args.here.now.site.now.widget in (
+      search rules,
+      (
+        (c.requires.ready.0, c.added.ensures.kept.confined c.requires.ready.1, c.requires.ready.2),
+        (
+          expr_stays fs w c.args.store.now.cells c.added.new.store.cells c.added.ensures.kept.grows c.args.by.1 c.args.here.now.at c.requires.held,
+          c.requires.tree,
+        ),
+      ),
+    )
+
+pub assigning::compute_name-added-requires-clause-confined : goal.assigning::compute_name-added-requires-clause-confined
+assigning::compute_name-added-requires-clause-confined t c = c.requires.ready.1
+
+pub assigning::compute_name-added-requires-clause-held : goal.assigning::compute_name-added-requires-clause-held
+assigning::compute_name-added-requires-clause-held t c = c.requires.held
+
+pub assigning::compute_name-added-requires-clause-tree : goal.assigning::compute_name-added-requires-clause-tree
+assigning::compute_name-added-requires-clause-tree t c = c.requires.tree
+
+pub assigning::compute_name-returns-then-run-eq0-clause-comes : goal.assigning::compute_name-returns-then-run-eq0-clause-comes
+assigning::compute_name-returns-then-run-eq0-clause-comes t c = c.compute_any.ensures.comes
+
+pub assigning::compute_name-returns-in-Some-clause-comes : goal.assigning::compute_name-returns-in-Some-clause-comes
+assigning::compute_name-returns-in-Some-clause-comes t c =
+    let fs = trees_of c.args.here.now.site.now.codes.now.items in
+    let w = c.args.here.now.site.now.widget in
+    let s = c.args.store.now in
+    let at = c.args.here.now.at in
+    let z = c.in-Some.z in
+    let z_same : to_z w64 (of_z w64 z) ≡ z = search rules in
+    sum_comes fs w s c.added.new.store 12 (form_taken fs w s.cells (form.AssignTarget c.args.by.0 c.args.by.1 at) (meaning.Refers (reference_of w s.cells (reference.Variable c.args.name.now))))
+    c.args.run.now (record c.args.run.now { units = c.args.run.now.units - 1 }) z c.set_value.new.out (c.set_value.ensures ∙ ap (λ (k : ℤ). value.Num (number.Whole k)) z_same) (less_one c.args.run.now.units c.if-run-eq0.false) c.requires.ready.2 c.in-Some.ensures.paid
+
+pub assigning::compute_name-returns-in-None-clause-comes : goal.assigning::compute_name-returns-in-None-clause-comes
+assigning::compute_name-returns-in-None-clause-comes t c =
+    let fs = trees_of c.args.here.now.site.now.codes.now.items in
+    let w = c.args.here.now.site.now.widget in
+    let at = c.args.here.now.at in
+    IfOk-weaker c.compute_any-in-None.result _ _
+    (λ how x. subst (λ (s : Cells). Comes fs w s c.compute_any-in-None.new.store 12 (form_taken fs w s.cells (form.AssignTarget c.args.by.0 c.args.by.1 at) (meaning.Refers (reference_of w s.cells (reference.Variable c.args.name.now)))) c.args.run.now c.compute_any-in-None.new.run how c.compute_any-in-None.new.out) c.in-None.ensures.none x)
+    c.compute_any-in-None.ensures.comes
+
+pub assigning::compute_name-returns-then-run-eq0-clause-kept : goal.assigning::compute_name-returns-then-run-eq0-clause-kept
+assigning::compute_name-returns-then-run-eq0-clause-kept t c = c.compute_any.ensures.kept
+
+pub assigning::compute_name-returns-in-Some-clause-kept : goal.assigning::compute_name-returns-in-Some-clause-kept
+assigning::compute_name-returns-in-Some-clause-kept t c = c.added.ensures.kept
+
+pub assigning::compute_name-returns-in-None-clause-kept : goal.assigning::compute_name-returns-in-None-clause-kept
+assigning::compute_name-returns-in-None-clause-kept t c =
+    kept_then (trees_of c.args.here.now.site.now.codes.now.items) c.args.here.now.site.now.widget c.args.store.now c.added.new.store c.compute_any-in-None.new.store c.added.ensures.kept c.compute_any-in-None.ensures.kept
+
+pub assigning::compute_any-compute_with-requires : goal.assigning::compute_any-compute_with-requires
+assigning::compute_any-compute_with-requires t c =
     let fs = trees_of c.args.here.now.site.now.codes.now.items in
     let w = c.args.here.now.site.now.widget in
     let s = c.args.store.now in (
@@ -739,8 +802,8 @@ assigning::compute_name-compute_with-requires t c =
       ),
     )
 
-pub assigning::compute_name-returns-clause-comes : goal.assigning::compute_name-returns-clause-comes
-assigning::compute_name-returns-clause-comes t c =
+pub assigning::compute_any-returns-clause-comes : goal.assigning::compute_any-returns-clause-comes
+assigning::compute_any-returns-clause-comes t c =
     let fs = trees_of c.args.here.now.site.now.codes.now.items in
     let w = c.args.here.now.site.now.widget in
     let s = c.args.store.now in

@@ -58,7 +58,10 @@ abbrev pub decreases-assigning::assign_by : goal.decreases-assigning::assign_by
 decreases-assigning::assign_by l = 16 * l.deep + 6
 
 abbrev pub decreases-assigning::compute_name : goal.decreases-assigning::compute_name
-decreases-assigning::compute_name l = 16 * l.deep + 3
+decreases-assigning::compute_name l = 16 * l.deep + 4
+
+abbrev pub decreases-assigning::compute_any : goal.decreases-assigning::compute_any
+decreases-assigning::compute_any l = 16 * l.deep + 3
 
 abbrev pub decreases-assigning::compute_with : goal.decreases-assigning::compute_with
 decreases-assigning::compute_with l = 16 * l.deep + 2
