@@ -6,4 +6,6 @@ pub mod Keywords
 pub mod Numbers
 pub mod Renumbered
 pub mod Sound
+pub mod Spelled
+pub mod Thinned
 pub mod Truths

@@ -391,6 +391,16 @@ sound us steps h =
     let f = follows us begin steps h (omega arith) in
     record { spelled = subst (λ q. SpellsSteps us q) (sym f.whole) f.spelled; some = f.some; few = f.few }
 
+-- behind the filters of a step that is read alone stand its further ones
+abbrev first_filters : List Step → List StepFilter
+first_filters [] = []
+first_filters (q ∷ qs) = q.filters
+
+pub filters_left : (us : List ℕ) (h : Hunter) (fs gs : List StepFilter) → go (Inside [] h fs) us ≡ Read ((record { hunter = h; filters = gs }) ∷ []) → (more : List StepFilter) × (others : List ℕ) × SpellsFilters more us others × (gs ≡ fs ++ more)
+filters_left us h fs gs e =
+    let b = follows us (Inside [] h fs) ((record { hunter = h; filters = gs }) ∷ []) e (omega arith) in
+    (b.filters, b.others, b.spelled, ap first_filters b.steps.whole)
+
 -- ## Each state closes
 
 between_closes : (qs : List Step) → Closes step done (Between qs)

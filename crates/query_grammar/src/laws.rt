@@ -1,10 +1,13 @@
 //! Laws on queries.
-ghost use Rattle.std.specs.Prelude.{◌≡◌, ◌⊎◌, ◌↔◌, ℕ, ◌+◌, List, length, map};
+ghost use Rattle.std.specs.Prelude.{◌≡◌, ◌⊎◌, ◌↔◌, ℕ, ◌+◌, ◌<◌, ◌≤◌, List, [], ◌++◌, length, map, drop, Option};
 ghost use Rattle.exact_refusals.specs.Judge.Outcome.{Read, Refused};
-ghost use Rattle.query_grammar.specs.Finds.{Sight, finds};
+ghost use Rattle.query_grammar.specs.declared.query.StepFilter.{StepFilter};
+ghost use Rattle.query_grammar.specs.Filters.{Look};
+ghost use Rattle.query_grammar.specs.Finds.{Sight, all_filtered, finds};
 ghost use Rattle.query_grammar.specs.Machine.{judged};
-ghost use Rattle.query_grammar.specs.Queries.{QuerySpells, BadQueryPlace};
+ghost use Rattle.query_grammar.specs.Queries.{QuerySpells, BadQueryPlace, SpellsFilter, SpellsFilters};
 ghost use Rattle.query_grammar.specs.Renumbering.{Stand, IsWhole, Renumbers};
+ghost use Rattle.query_grammar.specs.Spelled.{filters_of, AreFilters, IsFirst, Thins};
 ghost use Rattle.query_grammar.specs.Steps.{Step};
 
 /// Each text has one answer: its query, or the place at which it is refused.
@@ -24,4 +27,19 @@ pub fn machine_is_exact()
 /// What a query finds does not depend on how nodes are numbered.
 pub fn renumbering()
     ensures { (s t : Sight) (f : ℕ → ℕ) (starts : List ℕ) (query : List Step) → IsWhole s → Renumbers s t f → Stand s starts → finds t (map f starts) query ≡ map f (finds s starts query) }
+{}
+
+/// The filters of units are those that they spell, one behind the other; and the units of filters
+/// spell the same without what stands behind them.
+pub fn filters_as_units()
+    ensures are { (us : List ℕ) (fs : List StepFilter) → SpellsFilters fs us [] → filters_of us ≡ fs }
+    ensures alone { (fs : List StepFilter) (us rest : List ℕ) → SpellsFilters fs (us ++ rest) rest → SpellsFilters fs us [] }
+    ensures first { (us : List ℕ) (f : StepFilter) (end : ℕ) → AreFilters us → 0 < end → end ≤ length us →
+        SpellsFilter f us (drop end us) → IsFirst us f end }
+{}
+
+/// A filter on nodes that stood before keeps all nodes, also where filters on lists stand between.
+pub fn filters_once()
+    ensures { (look : ℕ → Look) (focus : Option ℕ) (fs gs : List StepFilter) (ns : List ℕ) →
+        Thins [] fs gs → all_filtered look focus gs ns ≡ all_filtered look focus fs ns }
 {}

@@ -5,8 +5,12 @@
 //! The functions that do nothing carry the laws.
 #![tactic(auto)]
 
+mod filters;
 mod laws;
 mod query;
+mod word;
 
-pub use laws::{machine_is_exact, one_answer, renumbering};
+pub use filters::Filters;
+pub use laws::{filters_as_units, filters_once, machine_is_exact, one_answer, renumbering};
 pub use query::{Filter, Hunter, ListFilter, Query, QueryStep, StepFilter};
+pub use word::QueryWord;

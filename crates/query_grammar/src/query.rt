@@ -1,4 +1,6 @@
 //! Queries as data.
+use crate::filters::Filters;
+use crate::word::QueryWord;
 use code_units::Text;
 use std::marker::Model;
 
@@ -21,17 +23,17 @@ pub enum Hunter {
 
 /// A filter on a node.
 #[derive(Drop)]
-pub enum Filter {
+pub enum Filter<'a> {
     /// The word is among the words of `class`.
-    Class(Text),
+    Class(QueryWord<'a>),
     /// The attribute `name` is the word.
-    Name(Text),
+    Name(QueryWord<'a>),
     /// The attribute `type` is the word.
-    Kind(Text),
+    Kind(QueryWord<'a>),
     /// The attribute is there.
-    Has(Text),
+    Has(QueryWord<'a>),
     /// The attribute equals the value.
-    Equals(Text, Text),
+    Equals(QueryWord<'a>, QueryWord<'a>),
     /// An `input` with `checked`.
     Checked,
     /// An `input` without `checked`.
@@ -59,8 +61,8 @@ pub enum ListFilter {
 
 /// A filter of a step.
 #[derive(Drop)]
-pub enum StepFilter {
-    Node(Filter),
+pub enum StepFilter<'a> {
+    Node(Filter<'a>),
     List(ListFilter),
 }
 
@@ -68,7 +70,7 @@ pub enum StepFilter {
 #[derive(Drop)]
 pub struct QueryStep {
     pub hunter: Hunter,
-    pub filters: Vec<StepFilter>,
+    pub filters: Filters,
 }
 
 impl Model for QueryStep {
@@ -76,7 +78,7 @@ impl Model for QueryStep {
 
     ghost Value = { Step };
 
-    ghost view = { λ s. record { hunter = s.hunter; filters = s.filters.items } };
+    ghost view = { λ s. record { hunter = s.hunter; filters = s.filters } };
 }
 
 /// A query: its steps in order.
