@@ -18,11 +18,13 @@ use Rattle.query_grammar.specs.Queries.{is_lower, in_word, in_value, goes_on, Ru
 use Rattle.query_grammar.specs.Machine.{State, Between, Hunt, Inside, Sift, Attribute, AttributeWord, AttributeValue, Keyword, ForId, ForChild, ForNext, FilterRole, ForClass, ForName, ForKind, with, between, keyword_of, keyword_or, fits, step, some_steps, done, begin, goes}
 use Rattle.query_text.specs.Runs.{is_space}
 use Rattle.query_text.specs.Faults.{IsQueryFault}
-use Rattle.query_text.specs.Reads.{is_first, IsRunAt, IsWordAt, IsNameAt, IsHunterAt, IsFilterBehind, IsFilterAt, AreFiltersAt, HasNone, Refuses, HasRoom}
+use Rattle.query_text.specs.Reads.{is_first, IsRunAt, IsWordAt, IsNameAt, IsHunterAt, IsFilterBehind, IsFilterAt, AreFiltersAt, StandFilters, HasNone, Refuses, HasRoom}
 use Rattle.query_grammar.proofs.Truths.{same_number, other_number, both_ways, not_false, or_split}
 use Rattle.query_grammar.proofs.Keywords.{keyword_is}
 use Rattle.query_grammar.proofs.Complete.{go, complete, taken, between_spaces, hunter_goes, filters_go, step_ends, attribute_goes, value_on, child_spaces, next_spaces, id_mark, child_mark, next_mark, run_stops}
 use Rattle.query_grammar.proofs.Sound.{sound}
+use Rattle.query_grammar.proofs.Spelled.{filters_are, spelled_alone, first_is}
+use Rattle.query_grammar.specs.Spelled.{filters_of, AreFilters, IsFirst}
 use Rattle.query_grammar.proofs.Exact.{refused_is}
 use Rattle.query_text.proofs.Cuts.{unit_at, no_unit_at, left_at, first_at, none_at, range_more, range_none, range_behind}
 
@@ -218,13 +220,13 @@ module _ (us : List ℕ) where
       last_two false k = k
 
   -- a filter that is read from behind its mark
-  pub behind_open : (at : ℕ) (inside : at < length us) (r : Result (StepFilter × ℕ) QueryFault) → get_or us at 0 ≡ byte "[" → MatchResult r (λ v. IsFilterBehind us (byte "[") (at + 1) v.0 v.1) (λ e. (qs : List Step) (h : Hunter) (fs : List StepFilter) → Refuses us (Attribute qs h fs) (at + 1) e) → MatchResult r (λ v. IsFilterAt us at v.0 v.1) (λ e. (qs : List Step) (h : Hunter) (fs : List StepFilter) → Refuses us (Inside qs h fs) at e)
+  pub behind_open : (at : ℕ) (inside : at < length us) (r : Result (StepFilter × ℕ) ℕ) → get_or us at 0 ≡ byte "[" → MatchResult r (λ v. IsFilterBehind us (byte "[") (at + 1) v.0 v.1) (λ e. (qs : List Step) (h : Hunter) (fs : List StepFilter) → Refuses us (Attribute qs h fs) (at + 1) (fault.BadQuery e)) → MatchResult r (λ v. IsFilterAt us at v.0 v.1) (λ e. (qs : List Step) (h : Hunter) (fs : List StepFilter) → Refuses us (Inside qs h fs) at (fault.BadQuery e))
   behind_open at inside (Ok v) is g = behind_mark at inside (byte "[") v.0 v.1 is g
-  behind_open at inside (Err e) is g = λ qs h fs. attribute_refused at inside qs h fs e is (g qs h fs)
+  behind_open at inside (Err e) is g = λ qs h fs. attribute_refused at inside qs h fs (fault.BadQuery e) is (g qs h fs)
 
-  pub behind_colon : (at : ℕ) (inside : at < length us) (r : Result (StepFilter × ℕ) QueryFault) → get_or us at 0 ≡ byte ":" → MatchResult r (λ v. IsFilterBehind us (byte ":") (at + 1) v.0 v.1) (λ e. (qs : List Step) (h : Hunter) (fs : List StepFilter) → Refuses us (Keyword qs h fs []) (at + 1) e) → MatchResult r (λ v. IsFilterAt us at v.0 v.1) (λ e. (qs : List Step) (h : Hunter) (fs : List StepFilter) → Refuses us (Inside qs h fs) at e)
+  pub behind_colon : (at : ℕ) (inside : at < length us) (r : Result (StepFilter × ℕ) ℕ) → get_or us at 0 ≡ byte ":" → MatchResult r (λ v. IsFilterBehind us (byte ":") (at + 1) v.0 v.1) (λ e. (qs : List Step) (h : Hunter) (fs : List StepFilter) → Refuses us (Keyword qs h fs []) (at + 1) (fault.BadQuery e)) → MatchResult r (λ v. IsFilterAt us at v.0 v.1) (λ e. (qs : List Step) (h : Hunter) (fs : List StepFilter) → Refuses us (Inside qs h fs) at (fault.BadQuery e))
   behind_colon at inside (Ok v) is g = behind_mark at inside (byte ":") v.0 v.1 is g
-  behind_colon at inside (Err e) is g = λ qs h fs. keyword_refused at inside qs h fs e is (g qs h fs)
+  behind_colon at inside (Err e) is g = λ qs h fs. keyword_refused at inside qs h fs (fault.BadQuery e) is (g qs h fs)
 
   -- ## Attributes
 
@@ -315,23 +317,38 @@ module _ (us : List ℕ) where
 
   -- ## Filters in a row
 
-  pub record FiltersSoFar (at : ℕ) (fs : List StepFilter) (place : ℕ) : Type 0 where
+  -- some filters stand up to a place
+  pub record FiltersSoFar (at : ℕ) (place : ℕ) : Type 0 where
     pub order : at ≤ place
     pub inside : place ≤ length us
-    pub spelled : SpellsFilters fs (drop at us) (drop place us)
+    pub filters : List StepFilter
+    pub spelled : SpellsFilters filters (drop at us) (drop place us)
 
-  pub filters_begin : (at : ℕ) (fs : List StepFilter) → at ≤ length us → fs ≡ [] → FiltersSoFar at fs at
-  filters_begin at fs le e = record { order = omega arith; inside = le; spelled = subst (λ l. SpellsFilters l (drop at us) (drop at us)) (sym e) no_filter }
+  pub filters_begin : (at : ℕ) → at ≤ length us → FiltersSoFar at at
+  filters_begin at le = record { order = omega arith; inside = le; filters = []; spelled = no_filter }
 
-  pub filters_further : (at : ℕ) (fs gs : List StepFilter) (f : StepFilter) (place after : ℕ) → FiltersSoFar at fs place → IsFilterAt us place f after → gs ≡ fs ++ f ∷ [] → FiltersSoFar at gs after
-  filters_further at fs gs f place after so_far g e =
-      record { order = omega (arith, so_far.order, g.later); inside = g.inside; spelled = subst (λ l. SpellsFilters l (drop at us) (drop after us)) (sym e) (filters_more so_far.spelled g.spelled) }
+  pub filters_further : (at : ℕ) (f : StepFilter) (place after : ℕ) → FiltersSoFar at place → IsFilterAt us place f after → FiltersSoFar at after
+  filters_further at f place after so_far g =
+      record { order = omega (arith, so_far.order, g.later); inside = g.inside; filters = so_far.filters ++ f ∷ []; spelled = filters_more so_far.spelled g.spelled }
 
-  pub filters_done : (at : ℕ) (fs : List StepFilter) (place : ℕ) → FiltersSoFar at fs place → goes_on is_mark (drop place us) ≡ false → AreFiltersAt us at fs place
-  filters_done at fs place so_far e = record { order = so_far.order; inside = so_far.inside; spelled = so_far.spelled; all = e }
+  pub filters_done : (at : ℕ) (place : ℕ) → FiltersSoFar at place → goes_on is_mark (drop place us) ≡ false → StandFilters us at place
+  filters_done at place so_far e = (so_far.filters, record { order = so_far.order; inside = so_far.inside; spelled = so_far.spelled; all = e })
 
-  pub filters_refused : (at : ℕ) (fs : List StepFilter) (place : ℕ) (e : QueryFault) → FiltersSoFar at fs place → ((qs : List Step) (h : Hunter) (gs : List StepFilter) → Refuses us (Inside qs h gs) place e) → (qs : List Step) (h : Hunter) → Refuses us (Inside qs h []) at e
-  filters_refused at fs place e so_far r qs h = refused_later (Inside qs h []) (Inside qs h fs) at place e (filters_go qs h [] so_far.spelled) (r qs h fs)
+  pub filters_refused : (at : ℕ) (place : ℕ) (e : QueryFault) → FiltersSoFar at place → ((qs : List Step) (h : Hunter) (gs : List StepFilter) → Refuses us (Inside qs h gs) place e) → (qs : List Step) (h : Hunter) → Refuses us (Inside qs h []) at e
+  filters_refused at place e so_far r qs h = refused_later (Inside qs h []) (Inside qs h so_far.filters) at place e (filters_go qs h [] so_far.spelled) (r qs h so_far.filters)
+
+  -- the filters between two places, as a part of the units
+  part_spells : (at end : ℕ) (fs : List StepFilter) → AreFiltersAt us at fs end → SpellsFilters fs (slice_range us at end) []
+  part_spells at end fs h = spelled_alone fs (slice_range us at end) (drop end us) (subst (λ l. SpellsFilters fs l (drop end us)) (range_behind us at end h.order h.inside) h.spelled)
+
+  part_filters : (at end : ℕ) → StandFilters us at end → AreFilters (slice_range us at end)
+  part_filters at end h =
+      let spells = part_spells at end (h.0) (h.1) in
+      subst (λ l. SpellsFilters l (slice_range us at end) []) (sym (filters_are (slice_range us at end) (h.0) spells)) spells
+
+  filters_at : (at end : ℕ) (fs : List StepFilter) → StandFilters us at end → fs ≡ filters_of (slice_range us at end) → AreFiltersAt us at fs end
+  filters_at at end fs h e =
+      subst (λ l. AreFiltersAt us at l end) (sym (e ∙ filters_are (slice_range us at end) (h.0) (part_spells at end (h.0) (h.1)))) (h.1)
 
   -- ## Steps
 
@@ -408,3 +425,64 @@ module _ (us : List ℕ) where
   pub fault_only : (e : QueryFault) → Refuses us begin 0 e → (rs : List Step) → QuerySpells us rs → e ≡ fault.Memory
   fault_only (fault.BadQuery place) h rs q = let is = complete us rs q in let refused = h.1 in cc
   fault_only fault.Memory h rs q = refl
+
+-- ## Filters as a part of a text
+
+pub text_filters : (text us : List ℕ) (at end : ℕ) → text ≡ us → StandFilters us at end → AreFilters (slice_range text at end)
+text_filters text us at end same h = subst (λ l. AreFilters (slice_range l at end)) (sym same) (part_filters us at end h)
+
+pub text_filters_at : (text us : List ℕ) (at end : ℕ) (fs : List StepFilter) → text ≡ us → StandFilters us at end → fs ≡ filters_of (slice_range text at end) → AreFiltersAt us at fs end
+text_filters_at text us at end fs same h e = filters_at us at end fs h (e ∙ ap (λ l. filters_of (slice_range l at end)) same)
+
+-- ## The first filter
+
+pub no_filters_in : (us : List ℕ) → (length us == 0) ≡ true → filters_of us ≡ []
+no_filters_in [] e = filters_are [] [] no_filter
+no_filters_in (u ∷ us) e = let none = same_number (length (u ∷ us)) 0 e in absurd (omega (arith, none))
+
+pub some_units : (us : List ℕ) → (length us == 0) ≡ false → 0 < length us
+some_units [] e = absurd (both_ways (length {A = ℕ} [] == 0) refl e)
+some_units (u ∷ us) e = omega arith
+
+-- a filter begins with a mark
+filter_marked : {f : StepFilter} {us rest : List ℕ} → SpellsFilter f us rest → goes_on is_mark us ≡ true
+filter_marked (by_class word) = refl
+filter_marked (by_name word) = refl
+filter_marked (by_type word) = refl
+filter_marked (by_presence word) = refl
+filter_marked (by_value word value) = refl
+filter_marked (by_keyword key) = refl
+
+filters_marked : {fs : List StepFilter} {us rest : List ℕ} → SpellsFilters fs us rest → length rest ≡ 0 → 0 < length us → goes_on is_mark us ≡ true
+filters_marked no_filter e lt = absurd (omega (arith, e, lt))
+filters_marked (one_filter one others) e lt = filter_marked one
+
+-- where units spell filters, a filter stands first
+pub begins_filter : (us : List ℕ) → AreFilters us → 0 < length us → goes_on is_mark us ≡ true
+begins_filter us all some = filters_marked all refl some
+
+-- and it is not refused
+never_refused : (us : List ℕ) (place : ℕ) → AreFilters us → ((qs : List Step) (h : Hunter) (fs : List StepFilter) → Refuses us (Inside qs h fs) 0 (fault.BadQuery place)) → ⊥
+never_refused us place all r =
+    let read = filters_go [] hunter.All [] all in
+    let refused = (r [] hunter.All []).1 in
+    cc
+
+ok_err : {A B : Type 0} (a : A) (b : B) → ◌≡◌ {A = Result A B} (Ok a) (Err b) → ⊥
+ok_err a b e = cc
+
+same_ok : {A B : Type 0} (a b : A) → ◌≡◌ {A = Result A B} (Ok a) (Ok b) → a ≡ b
+same_ok a b e = cc
+
+module _ (us : List ℕ) (all : AreFilters us) where
+  -- what reading a filter from the front gives
+  abbrev IsReadAt : Result (StepFilter × ℕ) ℕ → Type 0
+  IsReadAt r = MatchResult r (λ v. IsFilterAt us 0 v.0 v.1) (λ e. (qs : List Step) (h : Hunter) (fs : List StepFilter) → Refuses us (Inside qs h fs) 0 (fault.BadQuery e))
+
+  pub first_read : (r : Result (StepFilter × ℕ) ℕ) (v : StepFilter × ℕ) → r ≡ Ok v → IsReadAt r → IsFirst us v.0 v.1
+  first_read (Ok w) v is h = subst (λ x. IsFirst us x.0 x.1) (same_ok w v is) (first_is us w.0 w.1 all h.later h.inside h.spelled)
+  first_read (Err e) v is h = absurd (ok_err v e (sym is))
+
+  pub none_bad : (r : Result (StepFilter × ℕ) ℕ) (e : ℕ) → r ≡ Err e → IsReadAt r → ⊥
+  none_bad (Ok w) e is h = ok_err w e is
+  none_bad (Err d) e is h = never_refused us d all h

@@ -52,6 +52,10 @@ pub record AreFiltersAt (us : List ℕ) (at : ℕ) (fs : List StepFilter) (end :
   pub spelled : SpellsFilters fs (drop at us) (drop end us)
   pub all : goes_on is_mark (drop end us) ≡ false
 
+-- some filters stand from `at` to `end`
+abbrev pub StandFilters : List ℕ → ℕ → ℕ → Type 0
+StandFilters us at end = (fs : List StepFilter) × AreFiltersAt us at fs end
+
 -- no unit of the class stands there
 abbrev pub HasNone : List ℕ → (ℕ → Bool) → ℕ → QueryFault → Type 0
 HasNone us p at (fault.BadQuery place) = (place ≡ at) × (goes_on p (drop at us) ≡ false)

@@ -55,4 +55,4 @@ impl<T: Drop> From<AllocFailed<T>> for QueryFault {
     }
 }
 
-pub use read::read_query;
+pub use read::{first_filter, read_query};

@@ -2,12 +2,13 @@
 ghost use Rattle.std.specs.Prelude.{◌≡◌, ◌+◌, ◌<◌, ◌≤◌, length, drop, slice_range, IfOk, MatchResult};
 ghost use Rattle.query_grammar.specs.Queries.{is_lower, in_name, in_word};
 ghost use Rattle.query_grammar.specs.Machine.{keyword_of, fits};
+ghost use Rattle.query_text.specs.declared.QueryFault.TheVariants as fault;
 ghost use Rattle.query_text.specs.Runs.{passes};
 ghost use Rattle.query_text.specs.Reads.{is_first, IsRunAt, IsWordAt, IsNameAt, HasNone};
 
 use super::QueryFault;
 use code_units::{Memory, Text, begins_with, spells};
-use query_grammar::{Filter, ListFilter, StepFilter};
+use query_grammar::{Filter, ListFilter, QueryWord, StepFilter};
 use std::alloc::Global;
 
 const CLOSE: u16 = 0x5D;
@@ -84,6 +85,30 @@ pub fn text_of(alloc: Global, units: &[u16], from: usize, to: usize) -> Result<T
     Text::from_units(alloc, units[from..to].to_vec(alloc)?)
 }
 
+/// The part between two places.
+pub fn part_of(units: &[u16], from: usize, to: usize) -> QueryWord<'_>
+    requires order { from ≤ to }
+    requires inside { to ≤ length units.now }
+    ensures { result ≡ slice_range units.now from to }
+{
+    QueryWord::new(&units[from..to])
+}
+
+/// The word at a place, as a part of the units, and the place behind it; or the place itself, where
+/// none stands.
+pub fn part_at(units: &[u16], at: usize) -> Result<(QueryWord<'_>, usize), usize>
+    requires { at ≤ length units.now }
+    ensures { MatchResult result
+        (λ r. IsWordAt units.now at r.0 r.1)
+        (λ place. HasNone units.now in_word at (fault.BadQuery place)) }
+{
+    let end = run_end(units, at, Run::Word);
+    if end == at {
+        return Err(at);
+    }
+    Ok((part_of(units, at, end), end))
+}
+
 /// The word at a place, and the place behind it.
 pub fn word_at(alloc: Global, units: &[u16], at: usize) -> Result<(Text, usize), QueryFault>
     requires { at ≤ length units.now }
@@ -117,7 +142,7 @@ pub fn name_at(alloc: Global, units: &[u16], at: usize) -> Result<(Text, usize),
 
 /// The filter of a keyword.
 #[tactic(auto, unfolding(query_grammar::specs::Machine::keyword_of, query_grammar::specs::Machine::keywords))]
-pub fn keyword_of(units: &[u16]) -> Option<StepFilter>
+pub fn keyword_of(units: &[u16]) -> Option<StepFilter<'_>>
     ensures { result ≡ keyword_of units.now }
 {
     if spells(units, b"checked") {

@@ -1,5 +1,5 @@
 //! Reading a query.
-ghost use Rattle.std.specs.Prelude.{◌≡◌, ◌+◌, ◌<◌, ◌≤◌, true, false, List, [], length, drop, ◌==◌, MatchResult, IfOk, IfErr, IfSome};
+ghost use Rattle.std.specs.Prelude.{◌≡◌, ◌+◌, ◌<◌, ◌≤◌, true, false, List, [], length, drop, ◌==◌, MatchResult, MatchOption, IfOk, IfErr, IfSome};
 ghost use Rattle.std.specs.Str.{byte};
 ghost use Rattle.query_text.specs.declared.QueryFault.TheVariants as fault;
 ghost use Rattle.query_grammar.specs.declared.query.Hunter.{Hunter as Found};
@@ -9,12 +9,13 @@ ghost use Rattle.query_grammar.specs.Queries.{goes_on, is_mark, QuerySpells};
 ghost use Rattle.query_grammar.specs.Machine.{Between, Inside, Attribute, Keyword};
 ghost use Rattle.query_text.specs.Runs.{is_space};
 ghost use Rattle.query_text.specs.Faults.{IsQueryFault};
-ghost use Rattle.query_text.specs.Reads.{IsHunterAt, IsFilterBehind, IsFilterAt, AreFiltersAt, Refuses, HasRoom};
+ghost use Rattle.query_grammar.specs.Spelled.{filters_of, AreFilters, IsFirst};
+ghost use Rattle.query_text.specs.Reads.{IsHunterAt, IsFilterBehind, IsFilterAt, AreFiltersAt, StandFilters, Refuses, HasRoom};
 
 use super::QueryFault;
-use crate::parts::{Run, fits, keyword_of, name_at, run_end, stands, text_of, word_at};
+use crate::parts::{Run, fits, keyword_of, name_at, part_at, part_of, run_end, stands, word_at};
 use code_units::Text;
-use query_grammar::{Filter, Hunter, Query, QueryStep, StepFilter};
+use query_grammar::{Filter, Filters, Hunter, Query, QueryStep, StepFilter};
 use std::alloc::Global;
 
 /// The most steps of a query.
@@ -83,32 +84,33 @@ fn hunter_at(alloc: Global, units: &[u16], at: usize) -> Result<(Hunter, usize),
     }
 }
 
-// The filter on an attribute, from behind its bracket, and the place behind it.
-fn attribute_at(alloc: Global, units: &[u16], at: usize) -> Result<(StepFilter, usize), QueryFault>
+// The filter on an attribute, from behind its bracket, and the place behind it; or the place at which
+// it is refused, as below.
+fn attribute_at(units: &[u16], at: usize) -> Result<(StepFilter<'_>, usize), usize>
     requires { at ≤ length units.now }
     ensures { MatchResult result
         (λ r. IsFilterBehind units.now (byte "[") at r.0 r.1)
-        (λ e. (steps : List Step) (hunter : Found) (filters : List Sifter)
-        → Refuses units.now (Attribute steps hunter filters) at e) }
+        (λ place. (steps : List Step) (hunter : Found) (filters : List Sifter)
+        → Refuses units.now (Attribute steps hunter filters) at (fault.BadQuery place)) }
 {
-    let (word, end) = word_at(alloc, units, at)?;
+    let (word, end) = part_at(units, at)?;
     if stands(units, end, CLOSE) {
         return Ok((StepFilter::Node(Filter::Has(word)), end + 1));
     }
     if !stands(units, end, EQUALS) {
-        return Err(QueryFault::BadQuery { at: end });
+        return Err(end);
     }
     let close = run_end(units, end + 1, Run::Value);
     if close == units.len() {
-        return Err(QueryFault::BadQuery { at: close });
+        return Err(close);
     }
-    let value = text_of(alloc, units, end + 1, close)?;
+    let value = part_of(units, end + 1, close);
     Ok((StepFilter::Node(Filter::Equals(word, value)), close + 1))
 }
 
 // The filter of the letters and digits at a place, from behind their colon, and the place behind
 // them, if they are a keyword.
-fn whole_keyword_at(units: &[u16], at: usize) -> Option<(StepFilter, usize)>
+fn whole_keyword_at(units: &[u16], at: usize) -> Option<(StepFilter<'_>, usize)>
     requires { at ≤ length units.now }
     ensures { IfSome result (λ r. IsFilterBehind units.now (byte ":") at r.0 r.1) }
 {
@@ -121,12 +123,12 @@ fn whole_keyword_at(units: &[u16], at: usize) -> Option<(StepFilter, usize)>
 }
 
 // The filter of a keyword, from behind its colon, and the place behind it, unit by unit.
-fn keyword_by_units(units: &[u16], at: usize) -> Result<(StepFilter, usize), QueryFault>
+fn keyword_by_units(units: &[u16], at: usize) -> Result<(StepFilter<'_>, usize), usize>
     requires { at ≤ length units.now }
     ensures { MatchResult result
         (λ r. IsFilterBehind units.now (byte ":") at r.0 r.1)
-        (λ e. (steps : List Step) (hunter : Found) (filters : List Sifter)
-        → Refuses units.now (Keyword steps hunter filters []) at e) }
+        (λ place. (steps : List Step) (hunter : Found) (filters : List Sifter)
+        → Refuses units.now (Keyword steps hunter filters []) at (fault.BadQuery place)) }
 {
     let mut end = at;
     'keyword: while end < units.len() {
@@ -135,21 +137,21 @@ fn keyword_by_units(units: &[u16], at: usize) -> Result<(StepFilter, usize), Que
             return Ok((filter, end + 1));
         }
         if !fits(front) {
-            return Err(QueryFault::BadQuery { at: end });
+            return Err(end);
         }
         end += 1;
     }
-    Err(QueryFault::BadQuery { at: end })
+    Err(end)
 }
 
 // The filter of a keyword, from behind its colon, and the place behind it. Letters may stand behind
 // a keyword, which then begin the next step.
-fn keyword_at(units: &[u16], at: usize) -> Result<(StepFilter, usize), QueryFault>
+fn keyword_at(units: &[u16], at: usize) -> Result<(StepFilter<'_>, usize), usize>
     requires { at ≤ length units.now }
     ensures { MatchResult result
         (λ r. IsFilterBehind units.now (byte ":") at r.0 r.1)
-        (λ e. (steps : List Step) (hunter : Found) (filters : List Sifter)
-        → Refuses units.now (Keyword steps hunter filters []) at e) }
+        (λ place. (steps : List Step) (hunter : Found) (filters : List Sifter)
+        → Refuses units.now (Keyword steps hunter filters []) at (fault.BadQuery place)) }
 {
     match whole_keyword_at(units, at) {
         Some(found) => Ok(found),
@@ -158,22 +160,22 @@ fn keyword_at(units: &[u16], at: usize) -> Result<(StepFilter, usize), QueryFaul
 }
 
 // The filter at a place, and the place behind it.
-fn filter_at(alloc: Global, units: &[u16], at: usize) -> Result<(StepFilter, usize), QueryFault>
+fn filter_at(units: &[u16], at: usize) -> Result<(StepFilter<'_>, usize), usize>
     requires inside { at < length units.now }
     requires mark { goes_on is_mark (drop at units.now) ≡ true }
     ensures { MatchResult result
         (λ r. IsFilterAt units.now at r.0 r.1)
-        (λ e. (steps : List Step) (hunter : Found) (filters : List Sifter)
-        → Refuses units.now (Inside steps hunter filters) at e) }
+        (λ place. (steps : List Step) (hunter : Found) (filters : List Sifter)
+        → Refuses units.now (Inside steps hunter filters) at (fault.BadQuery place)) }
 {
     let unit = units[at];
     if unit == OPEN {
-        return attribute_at(alloc, units, at + 1);
+        return attribute_at(units, at + 1);
     }
     if unit == COLON {
         return keyword_at(units, at + 1);
     }
-    let (word, end) = word_at(alloc, units, at + 1)?;
+    let (word, end) = part_at(units, at + 1)?;
     if unit == POINT {
         return Ok((StepFilter::Node(Filter::Class(word)), end));
     }
@@ -183,28 +185,36 @@ fn filter_at(alloc: Global, units: &[u16], at: usize) -> Result<(StepFilter, usi
     Ok((StepFilter::Node(Filter::Kind(word)), end))
 }
 
-// The filters at a place, and the place behind them.
-fn filters_at(
-    alloc: Global,
-    units: &[u16],
-    at: usize,
-) -> Result<(Vec<StepFilter>, usize), QueryFault>
+// The place behind the filters at a place, of which none is kept.
+fn filters_end(units: &[u16], at: usize) -> Result<usize, usize>
     requires { at ≤ length units.now }
     ensures { MatchResult result
-        (λ r. AreFiltersAt units.now at r.0.items r.1)
-        (λ e. (steps : List Step) (hunter : Found) → Refuses units.now (Inside steps hunter []) at e) }
+        (λ end. StandFilters units.now at end)
+        (λ place. (steps : List Step) (hunter : Found) → Refuses units.now (Inside steps hunter []) at (fault.BadQuery place)) }
 {
-    let mut filters = Vec::new(alloc);
     let mut place = at;
     'filters: while place < units.len() {
         if !is_mark(units[place]) {
-            return Ok((filters, place));
+            return Ok(place);
         }
-        let (filter, next) = filter_at(alloc, units, place)?;
-        filters.push(filter)?;
+        let (_, next) = filter_at(units, place)?;
         place = next;
     }
-    Ok((filters, place))
+    Ok(place)
+}
+
+// The filters at a place, and the place behind them.
+fn filters_at(text: &Text, units: &[u16], at: usize) -> Result<(Filters, usize), QueryFault>
+    requires inside { at ≤ length units.now }
+    requires same { text.now ≡ units.now }
+    ensures { MatchResult result
+        (λ r. AreFiltersAt units.now at r.0 r.1)
+        (λ e. (steps : List Step) (hunter : Found) → Refuses units.now (Inside steps hunter []) at e) }
+{
+    match filters_end(units, at) {
+        Ok(end) => Ok((Filters::of(text, at, end)?, end)),
+        Err(at) => Err(QueryFault::BadQuery { at }),
+    }
 }
 
 // Whether there are as many steps as a query may have.
@@ -220,8 +230,9 @@ fn has_none(steps: &[QueryStep]) -> bool
     steps.is_empty()
 }
 
-// The query that the units spell.
-fn read_units(alloc: Global, units: &[u16]) -> Result<Query, QueryFault>
+// The query that the units of a text spell.
+fn read_units(alloc: Global, text: &Text, units: &[u16]) -> Result<Query, QueryFault>
+    requires { text.now ≡ units.now }
     ensures query { IfOk result (λ query. QuerySpells units.now query) }
     ensures only { (steps : List Step) → QuerySpells units.now steps
         → MatchResult result (λ query. query ≡ steps) (λ e. e ≡ fault.Memory) }
@@ -234,7 +245,7 @@ fn read_units(alloc: Global, units: &[u16]) -> Result<Query, QueryFault>
             return Err(QueryFault::BadQuery { at });
         }
         let (hunter, behind) = hunter_at(alloc, units, at)?;
-        let (filters, end) = filters_at(alloc, units, behind)?;
+        let (filters, end) = filters_at(text, units, behind)?;
         steps.push(QueryStep { hunter, filters })?;
         at = run_end(units, end, Run::Space);
     }
@@ -247,7 +258,8 @@ fn read_units(alloc: Global, units: &[u16]) -> Result<Query, QueryFault>
 /// The query of a text.
 ///
 /// A query is 1 to 32 steps with spaces before, between and behind them. `BadQuery` tells that the
-/// text is none, with the exact place; `Memory` that there was no memory for it.
+/// text is none, with the exact place; `Memory` that there was no memory for it. Memory is taken for
+/// steps and their words, and none for filters.
 pub fn read_query(alloc: Global, text: &Text) -> Result<Query, QueryFault>
     // The query is the one that the text spells.
     ensures query { IfOk result (λ query. QuerySpells text.now query) }
@@ -257,5 +269,19 @@ pub fn read_query(alloc: Global, text: &Text) -> Result<Query, QueryFault>
     // The place of a refusal is exact.
     ensures place { IfErr result (λ e. IsQueryFault text.now e) }
 {
-    read_units(alloc, text.units())
+    read_units(alloc, text, text.units())
+}
+
+/// The first of the filters that the units spell, and the place behind it.
+pub fn first_filter(units: &[u16]) -> Option<(StepFilter<'_>, usize)>
+    requires { AreFilters units.now }
+    ensures { MatchOption result (filters_of units.now ≡ []) (λ r. IsFirst units.now r.0 r.1) }
+{
+    if units.is_empty() {
+        return None;
+    }
+    match filter_at(units, 0) {
+        Ok(found) => Some(found),
+        Err(_) => unreachable!(),
+    }
 }

@@ -12,4 +12,4 @@ pub returns-then-close-units : goal.returns-then-close-units
 returns-then-close-units c = λ qs h fs. attribute_open _ _ qs h fs _ _ _ c.in_ok-word.ensures (sym c.if-not-stands.ensures) c.run_end-close.ensures c.if-close-units.true
 
 pub returns : goal.returns
-returns c = equals_is _ _ _ _ _ _ c.in_ok-word.ensures (sym c.if-not-stands.ensures) c.run_end-close.ensures (omega (arith, c.run_end-close.ensures.inside)) c.in_ok-value.ensures
+returns c = equals_is _ _ _ _ _ _ c.in_ok-word.ensures (sym c.if-not-stands.ensures) c.run_end-close.ensures (omega (arith, c.run_end-close.ensures.inside)) c.part_of-value.ensures

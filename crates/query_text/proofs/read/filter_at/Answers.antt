@@ -1,4 +1,5 @@
 use Rattle.std.proofs.lemmas.Result.{err_from_is_err_and}
+use Rattle.query_text.specs.declared.QueryFault.TheVariants as fault
 use Rattle.query_text.proofs.Reading.{class_is, named_is, kind_is, is_low_line, word_refused, behind_open, behind_colon}
 use Rattle.query_text.proofs.read.filter_at.Goals as goal
 
@@ -11,7 +12,7 @@ returns-then-unit-eq-COLON c = behind_colon _ _ c.requires.inside _ c.if-unit-eq
 pub returns-in_err-word : goal.returns-in_err-word
 returns-in_err-word c =
     let p = err_from_is_err_and c.from_residual.result c.from_residual.ensures.1 in
-    rw (p.1, p.2) (word_refused _ _ c.requires.inside _ c.requires.mark c.if-unit-eq-OPEN.false c.if-unit-eq-COLON.false c.in_err-word.ensures)
+    rw (p.1, p.2) (word_refused _ _ c.requires.inside (fault.BadQuery _) c.requires.mark c.if-unit-eq-OPEN.false c.if-unit-eq-COLON.false c.in_err-word.ensures)
 
 pub returns-then-unit-eq-POINT : goal.returns-then-unit-eq-POINT
 returns-then-unit-eq-POINT c = class_is _ _ c.requires.inside _ _ c.if-unit-eq-POINT.true c.in_ok-word.ensures

@@ -1,14 +1,8 @@
-use Rattle.std.proofs.lemmas.Result.{err_from_is_err_and}
-use Rattle.query_text.proofs.Reading.{filters_begin, filters_further, filters_refused}
+use Rattle.query_text.proofs.Reading.{text_filters, text_filters_at}
 use Rattle.query_text.proofs.read.filters_at.Goals as goal
 
-pub filters-init : goal.filters-init
-filters-init c = filters_begin _ _ _ c.requires c.new-filters.ensures.items
+pub of-requires-clause-filters : goal.of-requires-clause-filters
+of-requires-clause-filters c = text_filters c.args.text.now c.args.units.now c.args.at c.in-Ok.end c.requires.same (rw c.in-Ok.is at c.filters_end.ensures)
 
-pub returns-in_err-filter : goal.returns-in_err-filter
-returns-in_err-filter c =
-    let p = err_from_is_err_and c.from_residual.result c.from_residual.ensures.1 in
-    rw (p.1, p.2) (filters_refused _ _ _ _ _ c.filters.invariant c.in_err-filter.ensures)
-
-pub filters-preserved : goal.filters-preserved
-filters-preserved c = filters_further _ _ _ _ _ _ _ c.filters.invariant c.in_ok-filter.ensures c.in_ok-push.ensures.items
+pub returns-in_ok-of-in-Ok : goal.returns-in_ok-of-in-Ok
+returns-in_ok-of-in-Ok c = text_filters_at c.args.text.now c.args.units.now c.args.at c.in-Ok.end _ c.requires.same (rw c.in-Ok.is at c.filters_end.ensures) c.in_ok-of-in-Ok.ensures
