@@ -28,7 +28,7 @@ pub record EndsNoted (w waiting : ℕ) (old new : Cells) (before after : Notes) 
   pub kept : (fs : List Forest) → Kept fs w old new
 
 -- What a native answers, with the store, the fuel and the notes before and after it, where the widget is confined and so many timers wait. It is what the plan gives, the widget may hold it, all fuel that was taken was spent, and nothing changed where fuel is wanting.
-pub record MeetsNoted (w waiting : ℕ) (old new : Cells) (had has : Fuel) (before after : Notes) (plan : ℕ → State → Plan) (o : NativeOut) : Type 0 where
+pub record RefinesNoted (w waiting : ℕ) (old new : Cells) (had has : Fuel) (before after : Notes) (plan : ℕ → State → Plan) (o : NativeOut) : Type 0 where
   pub answer : (fs : List Forest) (r : Rest) (node : ℕ → ℕ) (d : ℕ) → IsConfined fs w old → length r.state.own.timers ≡ waiting
       → Answers (seen w new.cells) node d (plan d (image fs (noted w old.cells before r) w old)) (image fs (noted w old.cells before r) w old)
       o (image fs (noted w new.cells after r) w new) had.left has.left
@@ -38,7 +38,7 @@ pub record MeetsNoted (w waiting : ℕ) (old new : Cells) (had has : Fuel) (befo
   pub kept : (fs : List Forest) → Kept fs w old new
 
 -- The same of a native that keeps no note, however many timers wait.
-pub record MeetsSilent (w : ℕ) (old new : Cells) (had has : Fuel) (plan : ℕ → State → Plan) (o : NativeOut) : Type 0 where
+pub record RefinesSilent (w : ℕ) (old new : Cells) (had has : Fuel) (plan : ℕ → State → Plan) (o : NativeOut) : Type 0 where
   pub answer : (fs : List Forest) (r : Rest) (node : ℕ → ℕ) (d : ℕ) → IsConfined fs w old
       → Answers (seen w new.cells) node d (plan d (image fs r w old)) (image fs r w old) o (image fs r w new) had.left has.left
   pub fine : (fs : List Forest) → IsConfined fs w old → IsFineOut w new.cells o

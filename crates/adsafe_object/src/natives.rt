@@ -8,7 +8,7 @@ ghost use Rattle.widget_meaning.specs.Values.{Value as Plain};
 ghost use Rattle.js_image.specs.Image.{all_seen};
 ghost use Rattle.js_image.specs.Held.{AreFine, Kept};
 ghost use Rattle.native_common.specs.Receivers.{IsReceiver, receiver};
-ghost use Rattle.adsafe_object.specs.Ends.{MeetsNoted, MeetsSilent};
+ghost use Rattle.adsafe_object.specs.Ends.{RefinesNoted, RefinesSilent};
 ghost use Rattle.adsafe_object.specs.Part.{is_part, keeps_note};
 ghost use Rattle.adsafe_object.specs.Timers.{AsksOwn};
 
@@ -47,7 +47,7 @@ pub fn call(
     requires unasked { asked.old ≡ None }
     ensures own { AsksOwn (number_in owner) store.new.cells asked.new }
     ensures native { IfOk result (λ o.
-        MeetsNoted (number_in owner) waiting store.old store.new meter.old meter.new
+        RefinesNoted (number_in owner) waiting store.old store.new meter.old meter.new
         (record { log = log.old.items; posts = posts.old.items; asked = None })
         (record { log = log.new.items; posts = posts.new.items; asked = asked.new })
         (run_native which (receiver (number_in owner) store.old.cells this.now)
@@ -77,7 +77,7 @@ pub fn call_silent(
     requires widget { w < 32 }
     requires receiver { IsReceiver w store.old.cells this.now }
     requires args { AreFine w store.old.cells args.now }
-    ensures native { IfOk result (λ o. MeetsSilent w store.old store.new meter.old meter.new
+    ensures native { IfOk result (λ o. RefinesSilent w store.old store.new meter.old meter.new
         (run_native which (receiver w store.old.cells this.now) (all_seen w store.old.cells args.now)) o) }
     ensures memory { OnErr result ((fs : List Forest) → Kept fs w store.old store.new) }
 {
@@ -111,7 +111,7 @@ fn run(
     requires unasked { asked.old ≡ None }
     ensures own { AsksOwn w store.new.cells asked.new }
     ensures native { IfOk result (λ o.
-        MeetsNoted w waiting store.old store.new meter.old meter.new
+        RefinesNoted w waiting store.old store.new meter.old meter.new
         (record { log = log.old.items; posts = posts.old.items; asked = None })
         (record { log = log.new.items; posts = posts.new.items; asked = asked.new })
         (run_native which (receiver w store.old.cells this.now) (all_seen w store.old.cells args.now)) o) }
@@ -143,7 +143,7 @@ fn of_adsafe(
     requires unasked { asked.old ≡ None }
     ensures own { AsksOwn w store.new.cells asked.new }
     ensures native { (this : Option Plain) → IfOk result (λ o.
-        MeetsNoted w waiting store.old store.new meter.old meter.new
+        RefinesNoted w waiting store.old store.new meter.old meter.new
         (record { log = log.old.items; posts = posts.old.items; asked = None })
         (record { log = log.new.items; posts = posts.new.items; asked = asked.new })
         (adsafe_native which this (all_seen w store.old.cells args.now)) o) }
@@ -172,7 +172,7 @@ fn silent(
     requires silent { keeps_note (NativeId.Adsafe which) ≡ false }
     requires widget { w < 32 }
     requires args { AreFine w store.old.cells args.now }
-    ensures native { (this : Option Plain) → IfOk result (λ o. MeetsSilent w store.old store.new meter.old meter.new
+    ensures native { (this : Option Plain) → IfOk result (λ o. RefinesSilent w store.old store.new meter.old meter.new
         (adsafe_native which this (all_seen w store.old.cells args.now)) o) }
     ensures memory { OnErr result ((fs : List Forest) → Kept fs w store.old store.new) }
 {

@@ -15,7 +15,7 @@ ghost use Rattle.js_image.specs.Image.{Rest, image, seen};
 ghost use Rattle.js_image.specs.Held.{IsFine, Kept};
 ghost use Rattle.js_image.specs.Reads.{cell_in};
 ghost use Rattle.js_image.specs.Plans.{paid_plan};
-ghost use Rattle.adsafe_object.specs.Ends.{EndsNoted, MeetsNoted};
+ghost use Rattle.adsafe_object.specs.Ends.{EndsNoted, RefinesNoted};
 ghost use Rattle.adsafe_object.specs.Names.{text_plan};
 ghost use Rattle.adsafe_object.specs.Timers.{AsksOwn, milliseconds};
 
@@ -46,7 +46,7 @@ pub(crate) fn log(
 ) -> Result<NativeOut, Memory>
     requires { w < 32 }
     ensures native { IfOk result (λ o. (waiting : ℕ) (posts : List (List ℕ × List ℕ)) →
-        MeetsNoted w waiting store.old store.new meter.old meter.new
+        RefinesNoted w waiting store.old store.new meter.old meter.new
         (record { log = log.old.items; posts = posts; asked = None })
         (record { log = log.new.items; posts = posts; asked = None })
         (λ d s. means.log_native (seen w store.old.cells v.now) s) o) }
@@ -117,7 +117,7 @@ pub(crate) fn post(
 ) -> Result<NativeOut, Memory>
     requires { w < 32 }
     ensures native { IfOk result (λ o. (waiting : ℕ) (log : List (List ℕ)) →
-        MeetsNoted w waiting store.old store.new meter.old meter.new
+        RefinesNoted w waiting store.old store.new meter.old meter.new
         (record { log = log; posts = posts.old.items; asked = None })
         (record { log = log; posts = posts.new.items; asked = None })
         (λ d s. means.post (seen w store.old.cells to.now) (seen w store.old.cells text.now) s) o) }

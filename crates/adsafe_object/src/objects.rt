@@ -12,7 +12,7 @@ ghost use Rattle.js_image.specs.Image.{seen};
 ghost use Rattle.js_image.specs.Held.{IsFine, Kept};
 ghost use Rattle.js_image.specs.Plans.{IsFineMade, made_plan};
 ghost use Rattle.js_values.specs.Answers.{IsFineOut, IsOutOfFuel, Leaves};
-ghost use Rattle.native_common.specs.Meets.{Ends, Meets};
+ghost use Rattle.native_common.specs.Refines.{Ends, Refines};
 ghost use Rattle.adsafe_object.specs.Ends.{EndsConfined};
 ghost use Rattle.adsafe_object.specs.Kinds as kinds;
 ghost use Rattle.object_store.specs.Owned.{is_of};
@@ -140,7 +140,7 @@ pub(crate) fn keys(
 ) -> Result<NativeOut, Memory>
     requires widget { w < 32 }
     requires object { IsFine w store.old.cells object.now }
-    ensures native { IfOk result (λ o. Meets w store.old store.new meter.old meter.new
+    ensures native { IfOk result (λ o. Refines w store.old store.new meter.old meter.new
         (λ d s. means.keys_native (seen w store.old.cells object.now) s) o) }
     ensures memory { OnErr result ((fs : List Forest) → Kept fs w store.old store.new) }
 {

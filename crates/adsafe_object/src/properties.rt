@@ -11,7 +11,7 @@ ghost use Rattle.js_image.specs.Plans.{put_plan, removed_plan};
 ghost use Rattle.js_values.specs.Answers.{IsFineOut, Leaves};
 ghost use Rattle.store_cells.specs.Cells.{PlainCell};
 ghost use Rattle.store_cells.specs.declared.value.Value.{Value as StoreValue};
-ghost use Rattle.native_common.specs.Meets.{Ends};
+ghost use Rattle.native_common.specs.Refines.{Ends};
 ghost use Rattle.adsafe_object.specs.Ends.{EndsConfined};
 
 use crate::names::{Named, name_of};

@@ -5,7 +5,7 @@ ghost use Rattle.js_tree.specs.Forest.{Forest};
 ghost use Rattle.widget_meaning.specs.Limits.{max_units};
 ghost use Rattle.widget_meaning.specs.NativeForms as forms;
 ghost use Rattle.js_image.specs.Held.{Kept};
-ghost use Rattle.native_common.specs.Meets.{Ends};
+ghost use Rattle.native_common.specs.Refines.{Ends};
 ghost use Rattle.adsafe_object.specs.Names.{too_many};
 
 use code_units::{Memory, Text};

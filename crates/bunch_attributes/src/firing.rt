@@ -6,7 +6,7 @@ ghost use Rattle.js_image.specs.Held.{IsHeld};
 ghost use Rattle.js_image.specs.Image.{seen};
 ghost use Rattle.page_image.specs.Image.{number};
 ghost use Rattle.native_image.specs.Image.{beside};
-ghost use Rattle.native_image.specs.Meets.{MeetsAt};
+ghost use Rattle.native_image.specs.Refines.{RefinesAt};
 ghost use Rattle.native_image.specs.Sound.{AreNodes, IsSound};
 
 use code_units::Memory;
@@ -35,7 +35,7 @@ pub fn fire(
     requires held { IsHeld w store.now.cells this }
     requires sound { IsSound w store.now page.now around.now }
     ensures { (b : Option Bool) → IfOk result (λ o.
-        MeetsAt w (beside store.now page.now around.now b) (beside store.now page.now around.now b) meter.old meter.new
+        RefinesAt w (beside store.now page.now around.now b) (beside store.now page.now around.now b) meter.old meter.new
         (λ d s. means.write_method names.Fire (map (number page.now w) list.now)
         (seen w store.now.cells (Value.Ref this))
         (seen w store.now.cells kind.now ∷ []) d s) o) }

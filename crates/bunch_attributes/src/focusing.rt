@@ -10,7 +10,7 @@ ghost use Rattle.js_image.specs.Held.{IsHeld};
 ghost use Rattle.js_image.specs.Image.{seen};
 ghost use Rattle.page_image.specs.Image.{number, owns};
 ghost use Rattle.native_image.specs.Image.{beside};
-ghost use Rattle.native_image.specs.Meets.{MeetsAt};
+ghost use Rattle.native_image.specs.Refines.{RefinesAt};
 ghost use Rattle.native_image.specs.Sound.{AreNodes, HoldsOwn, IsSound, KeepsAll};
 
 use event_loop::Loop;
@@ -35,7 +35,7 @@ pub fn focus(
     requires held { IsHeld w store.old.cells this }
     requires sound { IsSound w store.old page.now around.old }
     ensures native { (b : Option Bool)
-        → MeetsAt w (beside store.old page.now around.old b)
+        → RefinesAt w (beside store.old page.now around.old b)
         (beside store.new page.now around.new b) meter.old meter.new
         (λ d s. means.write_method names.Focus (map (number page.now w) list.now)
         (seen w store.old.cells (Value.Ref this)) [] d s) result }
@@ -94,7 +94,7 @@ pub fn blur(
     requires held { IsHeld w store.old.cells this }
     requires sound { IsSound w store.old page.now around.old }
     ensures native { (b : Option Bool)
-        → MeetsAt w (beside store.old page.now around.old b)
+        → RefinesAt w (beside store.old page.now around.old b)
         (beside store.new page.now around.new b) meter.old meter.new
         (λ d s. means.write_method names.Blur (map (number page.now w) list.now)
         (seen w store.old.cells (Value.Ref this)) [] d s) result }

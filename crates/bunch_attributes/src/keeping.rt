@@ -12,7 +12,7 @@ ghost use Rattle.js_image.specs.Image.{seen};
 ghost use Rattle.page_image.specs.Image.{number, owns};
 ghost use Rattle.native_image.specs.Charges.{IsPrice, Price};
 ghost use Rattle.native_image.specs.Image.{beside};
-ghost use Rattle.native_image.specs.Meets.{MeetsAt};
+ghost use Rattle.native_image.specs.Refines.{RefinesAt};
 ghost use Rattle.native_image.specs.Sound.{AreNodes, HoldsOwn, IsSound, KeepsAll};
 ghost use Rattle.bunch_attributes.specs.Kept.{IsFineChange, keep_plan, meant, plain_change};
 
@@ -103,7 +103,7 @@ pub(crate) fn keep(
     requires change { IsFineChange w store.old.cells change.now }
     requires sound { IsSound w store.old page.now around.old }
     ensures native { (b : Option Bool) (c : Price) → IsPrice cost c
-        → IfOk result (λ o. MeetsAt w (beside store.old page.now around.old b)
+        → IfOk result (λ o. RefinesAt w (beside store.old page.now around.old b)
         (beside store.new page.now around.new b) meter.old meter.new
         (λ d s. keep_plan (meant (own_count w store.old.cells) change.now) c (map (number page.now w) list.now)
         (seen w store.old.cells (Value.Ref this)) s) o) }

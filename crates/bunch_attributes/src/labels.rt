@@ -11,7 +11,7 @@ ghost use Rattle.js_image.specs.Image.{seen};
 ghost use Rattle.page_image.specs.Image.{HasRoot, number};
 ghost use Rattle.native_common.specs.Numbers.{counted};
 ghost use Rattle.native_image.specs.Image.{beside};
-ghost use Rattle.native_image.specs.Meets.{MeetsAt};
+ghost use Rattle.native_image.specs.Refines.{RefinesAt};
 ghost use Rattle.native_image.specs.Sound.{AreNodes, IsSound, KeepsAll};
 ghost use Rattle.bunch_attributes.specs.Labels as labels;
 ghost use Rattle.bunch_attributes.specs.Tests as tests;
@@ -53,7 +53,7 @@ fn set_attribute(
     requires home { HasRoot page.old w }
     requires held { IsHeld w store.old.cells this }
     ensures native { (l : Loop) (b : Option Bool) → IsSound w store.old page.old l
-        → IfOk result (λ o. MeetsAt w (beside store.old page.old l b)
+        → IfOk result (λ o. RefinesAt w (beside store.old page.old l b)
         (beside store.new page.new l b) meter.old meter.new
         (λ d s. means.set_attribute (map (number page.old w) list.now) name.now text
         (seen w store.old.cells (Value.Ref this)) s) o) }
@@ -85,7 +85,7 @@ pub fn set_class(
     requires home { HasRoot page.old w }
     requires held { IsHeld w store.old.cells this }
     ensures native { (l : Loop) (b : Option Bool) → IsSound w store.old page.old l
-        → IfOk result (λ o. MeetsAt w (beside store.old page.old l b)
+        → IfOk result (λ o. RefinesAt w (beside store.old page.old l b)
         (beside store.new page.new l b) meter.old meter.new
         (λ d s. means.write_method names.SetClass (map (number page.old w) list.now)
         (seen w store.old.cells (Value.Ref this)) (seen w store.old.cells value.now ∷ []) d s) o) }
@@ -117,7 +117,7 @@ pub fn set_title(
     requires home { HasRoot page.old w }
     requires held { IsHeld w store.old.cells this }
     ensures native { (l : Loop) (b : Option Bool) → IsSound w store.old page.old l
-        → IfOk result (λ o. MeetsAt w (beside store.old page.old l b)
+        → IfOk result (λ o. RefinesAt w (beside store.old page.old l b)
         (beside store.new page.new l b) meter.old meter.new
         (λ d s. means.write_method names.SetTitle (map (number page.old w) list.now)
         (seen w store.old.cells (Value.Ref this)) (seen w store.old.cells value.now ∷ []) d s) o) }
@@ -164,7 +164,7 @@ fn set_flag(
     requires home { HasRoot page.old w }
     requires held { IsHeld w store.old.cells this }
     ensures native { (l : Loop) (b : Option Bool) → IsSound w store.old page.old l
-        → IfOk result (λ o. MeetsAt w (beside store.old page.old l b)
+        → IfOk result (λ o. RefinesAt w (beside store.old page.old l b)
         (beside store.new page.new l b) meter.old meter.new
         (λ d s. means.set_flag (tests.passes test s) (map (number page.old w) list.now) name.now is_set
         (seen w store.old.cells (Value.Ref this)) s) o) }
@@ -194,7 +194,7 @@ pub fn set_check(
     requires home { HasRoot page.old w }
     requires held { IsHeld w store.old.cells this }
     ensures native { (l : Loop) (b : Option Bool) → IsSound w store.old page.old l
-        → IfOk result (λ o. MeetsAt w (beside store.old page.old l b)
+        → IfOk result (λ o. RefinesAt w (beside store.old page.old l b)
         (beside store.new page.new l b) meter.old meter.new
         (λ d s. means.write_method names.SetCheck (map (number page.old w) list.now)
         (seen w store.old.cells (Value.Ref this)) (seen w store.old.cells value.now ∷ []) d s) o) }
@@ -230,7 +230,7 @@ pub fn set_enabled(
     requires home { HasRoot page.old w }
     requires held { IsHeld w store.old.cells this }
     ensures native { (l : Loop) (b : Option Bool) → IsSound w store.old page.old l
-        → IfOk result (λ o. MeetsAt w (beside store.old page.old l b)
+        → IfOk result (λ o. RefinesAt w (beside store.old page.old l b)
         (beside store.new page.new l b) meter.old meter.new
         (λ d s. means.write_method names.SetEnabled (map (number page.old w) list.now)
         (seen w store.old.cells (Value.Ref this)) (seen w store.old.cells value.now ∷ []) d s) o) }
@@ -275,7 +275,7 @@ pub fn set_style(
     requires home { HasRoot page.old w }
     requires held { IsHeld w store.old.cells this }
     ensures native { (l : Loop) (b : Option Bool) → IsSound w store.old page.old l
-        → IfOk result (λ o. MeetsAt w (beside store.old page.old l b)
+        → IfOk result (λ o. RefinesAt w (beside store.old page.old l b)
         (beside store.new page.new l b) meter.old meter.new
         (λ d s. means.write_method names.SetStyle (map (number page.old w) list.now)
         (seen w store.old.cells (Value.Ref this))

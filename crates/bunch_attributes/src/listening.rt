@@ -6,7 +6,7 @@ ghost use Rattle.js_image.specs.Held.{IsFine, IsHeld};
 ghost use Rattle.js_image.specs.Image.{seen};
 ghost use Rattle.page_image.specs.Image.{number};
 ghost use Rattle.native_image.specs.Image.{beside};
-ghost use Rattle.native_image.specs.Meets.{MeetsAt};
+ghost use Rattle.native_image.specs.Refines.{RefinesAt};
 ghost use Rattle.native_image.specs.Sound.{AreNodes, IsSound, KeepsAll};
 ghost use Rattle.bunch_attributes.specs.Values.{is_undefined};
 
@@ -42,7 +42,7 @@ pub fn listen(
     requires func { IsFine w store.old.cells func.now }
     requires sound { IsSound w store.old page.now around.old }
     ensures native { (b : Option Bool) → IfOk result (λ o.
-        MeetsAt w (beside store.old page.now around.old b) (beside store.new page.now around.new b) meter.old meter.new
+        RefinesAt w (beside store.old page.now around.old b) (beside store.new page.now around.new b) meter.old meter.new
         (λ d s. means.write_method names.On (map (number page.now w) list.now)
         (seen w store.old.cells (Value.Ref this))
         (seen w store.old.cells kind.now ∷ seen w store.old.cells func.now ∷ []) d s) o) }
@@ -91,7 +91,7 @@ pub fn hush(
     requires held { IsHeld w store.old.cells this }
     requires sound { IsSound w store.old page.now around.old }
     ensures native { (b : Option Bool) → IfOk result (λ o.
-        MeetsAt w (beside store.old page.now around.old b) (beside store.new page.now around.new b) meter.old meter.new
+        RefinesAt w (beside store.old page.now around.old b) (beside store.new page.now around.new b) meter.old meter.new
         (λ d s. means.write_method names.Off (map (number page.now w) list.now)
         (seen w store.old.cells (Value.Ref this)) (seen w store.old.cells kind.now ∷ []) d s) o) }
     ensures kept { KeepsAll w store.old store.new page.now page.now around.new }
@@ -150,7 +150,7 @@ pub fn set_mark(
     requires held { IsHeld w store.old.cells this }
     requires sound { IsSound w store.old page.now around.old }
     ensures native { (b : Option Bool) → IfOk result (λ o.
-        MeetsAt w (beside store.old page.now around.old b) (beside store.new page.now around.new b) meter.old meter.new
+        RefinesAt w (beside store.old page.now around.old b) (beside store.new page.now around.new b) meter.old meter.new
         (λ d s. means.write_method names.SetMark (map (number page.now w) list.now)
         (seen w store.old.cells (Value.Ref this)) (seen w store.old.cells value.now ∷ []) d s) o) }
     ensures kept { KeepsAll w store.old store.new page.now page.now around.new }
@@ -190,7 +190,7 @@ pub fn protect(
     requires held { IsHeld w store.old.cells this }
     requires sound { IsSound w store.old page.now around.old }
     ensures native { (b : Option Bool) → IfOk result (λ o.
-        MeetsAt w (beside store.old page.now around.old b) (beside store.new page.now around.new b) meter.old meter.new
+        RefinesAt w (beside store.old page.now around.old b) (beside store.new page.now around.new b) meter.old meter.new
         (λ d s. means.write_method names.Protect (map (number page.now w) list.now)
         (seen w store.old.cells (Value.Ref this)) ([]) d s) o) }
     ensures kept { KeepsAll w store.old store.new page.now page.now around.new }

@@ -10,7 +10,7 @@ ghost use Rattle.page_image.specs.Stays.{HostStays, KeepsNodes, OthersStay};
 ghost use Rattle.page_image.specs.Targets.{is_text_at};
 ghost use Rattle.native_image.specs.Charges.{IsPrice, Price};
 ghost use Rattle.native_image.specs.Image.{beside};
-ghost use Rattle.native_image.specs.Meets.{MeetsAt};
+ghost use Rattle.native_image.specs.Refines.{RefinesAt};
 ghost use Rattle.native_image.specs.Sound.{AreNodes, IsSound, KeepsAll};
 ghost use Rattle.bunch_attributes.specs.Labels.{meant, relabel_plan};
 
@@ -122,7 +122,7 @@ pub(crate) fn relabel(
     requires home { HasRoot page.old w }
     requires held { IsHeld w store.old.cells this }
     ensures native { (l : Loop) (b : Option Bool) (c : Price) → IsSound w store.old page.old l → IsPrice how.now.cost c
-        → IfOk result (λ o. MeetsAt w (beside store.old page.old l b)
+        → IfOk result (λ o. RefinesAt w (beside store.old page.old l b)
         (beside store.new page.new l b) meter.old meter.new
         (λ d s. relabel_plan how.now.test how.now.change c (map (number page.old w) list.now)
         (seen w store.old.cells (Value.Ref this)) s) o) }

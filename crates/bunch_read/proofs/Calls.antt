@@ -34,7 +34,7 @@ use Rattle.native_image.specs.Sound.{AreNodes}
 use Rattle.event_loop.specs.declared.around.Loop.{Loop}
 use Rattle.js_values.specs.Fuel.{Fuel}
 use Rattle.js_values.specs.declared.outcome.NativeOut.{NativeOut}
-use Rattle.native_image.specs.Meets.{Reads}
+use Rattle.native_image.specs.Refines.{Reads}
 use Rattle.bunch_read.specs.Part.{is_part}
 
 not_here : false ≡ true → ⊥

@@ -6,7 +6,7 @@ ghost use Rattle.widget_meaning.specs.Natives.{run_native};
 ghost use Rattle.js_image.specs.Image.{all_seen, seen};
 ghost use Rattle.native_common.specs.Receivers.{IsReceiver, receiver};
 ghost use Rattle.page_image.specs.Image.{number};
-ghost use Rattle.native_image.specs.Meets.{Reads};
+ghost use Rattle.native_image.specs.Refines.{Reads};
 ghost use Rattle.native_image.specs.Sound.{AreNodes, HoldsOwn, IsSound, KeepsStore};
 ghost use Rattle.bunch_read.specs.Part.{is_part, is_read};
 

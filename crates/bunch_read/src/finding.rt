@@ -13,7 +13,7 @@ ghost use Rattle.js_image.specs.Image.{seen};
 ghost use Rattle.page_image.specs.Held.{OptionIn};
 ghost use Rattle.page_image.specs.Image.{forest, number, owns};
 ghost use Rattle.bunch_read.specs.Finding.{AreApart, Opens, added, begins_next};
-ghost use Rattle.native_image.specs.Meets.{Reads};
+ghost use Rattle.native_image.specs.Refines.{Reads};
 ghost use Rattle.native_image.specs.Sound.{AreNodes, HoldsOwn, IsSound, KeepsStore};
 
 use code_units::{Memory, Owner};

@@ -10,7 +10,7 @@ ghost use Rattle.widget_meaning.specs.Values.{Num, Truth};
 ghost use Rattle.event_image.specs.Image.{Shows};
 ghost use Rattle.event_loop.specs.declared.around.Loop.{Loop};
 ghost use Rattle.page_image.specs.Image.{forest, number, owns};
-ghost use Rattle.native_image.specs.Meets.{Reads};
+ghost use Rattle.native_image.specs.Refines.{Reads};
 ghost use Rattle.native_image.specs.Sound.{AreNodes, IsSound};
 
 use crate::attributes::{first_found, shared};

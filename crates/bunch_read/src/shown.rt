@@ -6,7 +6,7 @@ ghost use Rattle.widget_meaning.specs.OwnState.{State};
 ghost use Rattle.event_image.specs.Image.{Shows};
 ghost use Rattle.js_image.specs.Held.{Kept};
 ghost use Rattle.page_image.specs.Image.{number};
-ghost use Rattle.native_image.specs.Meets.{Reads};
+ghost use Rattle.native_image.specs.Refines.{Reads};
 ghost use Rattle.native_image.specs.Sound.{AreNodes, IsSound};
 
 use crate::attributes::first_attribute;

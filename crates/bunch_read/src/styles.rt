@@ -7,7 +7,7 @@ ghost use Rattle.event_loop.specs.declared.around.Loop.{Loop};
 ghost use Rattle.js_image.specs.Held.{Kept};
 ghost use Rattle.js_image.specs.Image.{seen};
 ghost use Rattle.page_image.specs.Image.{number};
-ghost use Rattle.native_image.specs.Meets.{Reads};
+ghost use Rattle.native_image.specs.Refines.{Reads};
 ghost use Rattle.native_image.specs.Sound.{AreNodes, IsSound};
 
 use crate::attributes::first_attribute;

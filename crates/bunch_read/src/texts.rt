@@ -15,11 +15,11 @@ ghost use Rattle.widget_meaning.specs.NativeForms as forms;
 ghost use Rattle.widget_meaning.specs.PageForms.{is_input, texts_of};
 ghost use Rattle.event_loop.specs.declared.around.Loop.{Loop};
 ghost use Rattle.js_image.specs.Held.{AreFine, Kept};
-ghost use Rattle.native_common.specs.Meets.{Ends};
+ghost use Rattle.native_common.specs.Refines.{Ends};
 ghost use Rattle.native_common.specs.Numbers.{counted};
 ghost use Rattle.page_image.specs.Image.{forest, label_at, number, owns};
 ghost use Rattle.native_image.specs.Image.{Parts};
-ghost use Rattle.native_image.specs.Meets.{FiresAtOwn, Reads};
+ghost use Rattle.native_image.specs.Refines.{FiresAtOwn, Reads};
 ghost use Rattle.native_image.specs.Sound.{AreNodes, IsSound};
 ghost use Rattle.bunch_read.specs.Values.{all_units, is_long, own_text, value_plan};
 

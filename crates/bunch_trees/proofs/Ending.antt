@@ -13,7 +13,7 @@ use Rattle.js_image.specs.Image.{seen}
 use Rattle.js_image.proofs.Grown.{held_stays, seen_stays}
 use Rattle.js_values.specs.declared.outcome.NativeOut.TheVariants as native
 use Rattle.native_image.specs.Image.{Outside, beside, image}
-use Rattle.native_image.specs.Meets.{EndsAt}
+use Rattle.native_image.specs.Refines.{EndsAt}
 use Rattle.native_image.specs.Sound.{HoldsOwn, IsSound, KeepsStore}
 use Rattle.bunch_trees.specs.Changes.{Changes}
 

@@ -14,7 +14,7 @@ ghost use Rattle.page_image.specs.Copies.{trees_at};
 ghost use Rattle.page_image.specs.Image.{HasRoot, forest, number, owns};
 ghost use Rattle.page_image.specs.Targets.{takes};
 ghost use Rattle.native_image.specs.Image.{beside};
-ghost use Rattle.native_image.specs.Meets.{EndsAt, MeetsAt};
+ghost use Rattle.native_image.specs.Refines.{EndsAt, RefinesAt};
 ghost use Rattle.native_image.specs.Sound.{AreNodes, IsSound, KeepsAll};
 ghost use Rattle.bunch_trees.specs.Appends.{append_nodes, append_paid};
 
@@ -108,7 +108,7 @@ fn append_nodes(
     requires news { (n : ℕ) → has_number news.now n ≡ true → owns page.old bunch.now.w n ≡ true }
     requires sound { (l : Loop) × IsSound bunch.now.w store.old page.old l }
     ensures native { (l : Loop) (b : Option Bool) → IsSound bunch.now.w store.old page.old l → IfOk result (λ o.
-        MeetsAt bunch.now.w (beside store.old page.old l b) (beside store.new page.new l b) meter.old meter.new
+        RefinesAt bunch.now.w (beside store.old page.old l b) (beside store.new page.new l b) meter.old meter.new
         (λ d s. append_nodes (map (number page.old bunch.now.w) bunch.now.nodes.now)
         (map (number page.old bunch.now.w) news.now)
         (seen bunch.now.w store.old.cells (Value.Ref bunch.now.cell)) s) o) }
@@ -145,7 +145,7 @@ pub fn append(
     requires other { IsFine bunch.now.w store.old.cells other.now }
     requires sound { (l : Loop) × IsSound bunch.now.w store.old page.old l }
     ensures native { (l : Loop) (b : Option Bool) → IsSound bunch.now.w store.old page.old l → IfOk result (λ o.
-        MeetsAt bunch.now.w (beside store.old page.old l b) (beside store.new page.new l b) meter.old meter.new
+        RefinesAt bunch.now.w (beside store.old page.old l b) (beside store.new page.new l b) meter.old meter.new
         (λ d s. means.write_method names.Append (map (number page.old bunch.now.w) bunch.now.nodes.now)
         (seen bunch.now.w store.old.cells (Value.Ref bunch.now.cell))
         (seen bunch.now.w store.old.cells other.now ∷ []) d s) o) }

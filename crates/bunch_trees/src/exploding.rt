@@ -13,7 +13,7 @@ ghost use Rattle.js_image.specs.Image as joint;
 ghost use Rattle.native_common.specs.Receivers.{IsReceiver, receiver};
 ghost use Rattle.page_image.specs.Image.{number};
 ghost use Rattle.native_image.specs.Image.{beside};
-ghost use Rattle.native_image.specs.Meets.{EndsAt, MeetsAt};
+ghost use Rattle.native_image.specs.Refines.{EndsAt, RefinesAt};
 ghost use Rattle.native_image.specs.Sound.{AreNodes, IsSound, KeepsAll, KeepsStore};
 ghost use Rattle.bunch_trees.specs.Explodes.{IsEmptyArray, IsExploded, explode_paid, filled};
 
@@ -160,7 +160,7 @@ fn explode_nodes(
     requires nodes { AreNodes page.now w nodes.now }
     requires sound { (l : Loop) × IsSound w store.old page.now l }
     ensures native { (l : Loop) (b : Option Bool) → IsSound w store.old page.now l → IfOk result (λ o.
-        MeetsAt w (beside store.old page.now l b) (beside store.new page.now l b) meter.old meter.new
+        RefinesAt w (beside store.old page.now l b) (beside store.new page.now l b) meter.old meter.new
         (λ d s. means.explode (map (number page.now w) nodes.now) s) o) }
     ensures kept { (l : Loop) → IsSound w store.old page.now l → KeepsAll w store.old store.new page.now page.now l }
 {
@@ -183,7 +183,7 @@ pub fn explode(
     requires receiver { IsReceiver w store.old.cells this.now }
     requires sound { (l : Loop) × IsSound w store.old page.now l }
     ensures native { (l : Loop) (b : Option Bool) (vs : List Meant) → IsSound w store.old page.now l → IfOk result (λ o.
-        MeetsAt w (beside store.old page.now l b) (beside store.new page.now l b) meter.old meter.new
+        RefinesAt w (beside store.old page.now l b) (beside store.new page.now l b) meter.old meter.new
         (λ d s. means.read_native names.Explode (receiver w store.old.cells this.now) vs d s) o) }
     ensures kept { (l : Loop) → IsSound w store.old page.now l → KeepsAll w store.old store.new page.now page.now l }
 {

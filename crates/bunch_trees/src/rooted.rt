@@ -11,7 +11,7 @@ ghost use Rattle.js_image.specs.Held.{IsFine};
 ghost use Rattle.js_image.specs.Image.{seen};
 ghost use Rattle.page_image.specs.Image.{HasRoot, number, owns};
 ghost use Rattle.native_image.specs.Image.{beside};
-ghost use Rattle.native_image.specs.Meets.{EndsAt, MeetsAt};
+ghost use Rattle.native_image.specs.Refines.{EndsAt, RefinesAt};
 ghost use Rattle.native_image.specs.Sound.{IsSound, KeepsAll};
 ghost use Rattle.bunch_trees.specs.Appends.{root_paid, root_plan};
 
@@ -103,7 +103,7 @@ fn append_to_root(
     requires news { (n : ℕ) → has_number news.now n ≡ true → owns page.old w n ≡ true }
     requires sound { (l : Loop) × IsSound w store.old page.old l }
     ensures native { (l : Loop) (b : Option Bool) → IsSound w store.old page.old l → IfOk result (λ o.
-        MeetsAt w (beside store.old page.old l b) (beside store.new page.new l b) meter.old meter.new
+        RefinesAt w (beside store.old page.old l b) (beside store.new page.new l b) meter.old meter.new
         (λ d s. root_plan (map (number page.old w) news.now) s) o) }
     ensures kept { (l : Loop) → IsSound w store.old page.old l → KeepsAll w store.old store.new page.old page.new l }
 {
@@ -133,7 +133,7 @@ pub fn dom_append(
     requires sound { (l : Loop) × IsSound w store.old page.old l }
     ensures native { (l : Loop) (b : Option Bool) (this : Option Meant) → IsSound w store.old page.old l
         → IfOk result (λ o.
-        MeetsAt w (beside store.old page.old l b) (beside store.new page.new l b) meter.old meter.new
+        RefinesAt w (beside store.old page.old l b) (beside store.new page.new l b) meter.old meter.new
         (λ d s. means.dom_native names.DomAppend this (seen w store.old.cells other.now ∷ []) d s) o) }
     ensures kept { (l : Loop) → IsSound w store.old page.old l → KeepsAll w store.old store.new page.old page.new l }
 {

@@ -11,7 +11,7 @@ ghost use Rattle.js_image.specs.Held.{IsHeld};
 ghost use Rattle.js_image.specs.Image.{seen};
 ghost use Rattle.page_image.specs.Image.{forest, number, owns};
 ghost use Rattle.native_image.specs.Image.{beside};
-ghost use Rattle.native_image.specs.Meets.{EndsAt, MeetsAt};
+ghost use Rattle.native_image.specs.Refines.{EndsAt, RefinesAt};
 ghost use Rattle.native_image.specs.Sound.{AreNodes, IsSound, KeepsAll};
 ghost use Rattle.bunch_trees.specs.Values.{is_closed_tag, value_paid};
 
@@ -164,7 +164,7 @@ fn give_value(
     requires held { IsHeld bunch.now.w store.old.cells bunch.now.cell }
     requires sound { (l : Loop) × IsSound bunch.now.w store.old page.old l }
     ensures native { (l : Loop) (b : Option Bool) → IsSound bunch.now.w store.old page.old l → IfOk result (λ o.
-        MeetsAt bunch.now.w (beside store.old page.old l b) (beside store.new page.new l b) meter.old meter.new
+        RefinesAt bunch.now.w (beside store.old page.old l b) (beside store.new page.new l b) meter.old meter.new
         (λ d s. means.set_value (map (number page.old bunch.now.w) bunch.now.nodes.now) text
         (seen bunch.now.w store.old.cells (Value.Ref bunch.now.cell)) s) o) }
     ensures kept { (l : Loop) → IsSound bunch.now.w store.old page.old l
@@ -193,7 +193,7 @@ pub fn set_value(
     requires held { IsHeld bunch.now.w store.old.cells bunch.now.cell }
     requires sound { (l : Loop) × IsSound bunch.now.w store.old page.old l }
     ensures native { (l : Loop) (b : Option Bool) → IsSound bunch.now.w store.old page.old l → IfOk result (λ o.
-        MeetsAt bunch.now.w (beside store.old page.old l b) (beside store.new page.new l b) meter.old meter.new
+        RefinesAt bunch.now.w (beside store.old page.old l b) (beside store.new page.new l b) meter.old meter.new
         (λ d s. means.write_method names.SetValue (map (number page.old bunch.now.w) bunch.now.nodes.now)
         (seen bunch.now.w store.old.cells (Value.Ref bunch.now.cell))
         (seen bunch.now.w store.old.cells value.now ∷ []) d s) o) }

@@ -33,7 +33,7 @@ use Rattle.widget_meaning.specs.OwnState as state
 use Rattle.widget_meaning.specs.OwnState.{State}
 use Rattle.widget_meaning.specs.Costs.{or_throw, throw}
 use Rattle.native_image.specs.Image.{Parts}
-use Rattle.native_image.specs.Meets.{MeetsAt}
+use Rattle.native_image.specs.Refines.{RefinesAt}
 use Rattle.bunch_write.specs.Part.{is_part}
 
 not_here : false ≡ true → ⊥
@@ -58,11 +58,11 @@ arg_fine w cells vs n v e h = subst (IsFine w cells) (sym e) (at vs n h)
 
 -- one method
 module _ (w : ℕ) (old new : Parts) (had has : Fuel) (ns : List ℕ) (b u v : meaning.Value) where
-  pub of_method : {E : Type 0} (r : Result NativeOut E) (m k : WriteNative) → m ≡ k → IfOk r (λ o. MeetsAt w old new had has (λ d s. write_method k ns b (u ∷ v ∷ []) d s) o) → IfOk r (λ o. MeetsAt w old new had has (λ d s. write_method m ns b (u ∷ v ∷ []) d s) o)
-  of_method r m k e h = subst (λ q. IfOk r (λ o. MeetsAt w old new had has (λ d s. write_method q ns b (u ∷ v ∷ []) d s) o)) (sym e) h
+  pub of_method : {E : Type 0} (r : Result NativeOut E) (m k : WriteNative) → m ≡ k → IfOk r (λ o. RefinesAt w old new had has (λ d s. write_method k ns b (u ∷ v ∷ []) d s) o) → IfOk r (λ o. RefinesAt w old new had has (λ d s. write_method m ns b (u ∷ v ∷ []) d s) o)
+  of_method r m k e h = subst (λ q. IfOk r (λ o. RefinesAt w old new had has (λ d s. write_method q ns b (u ∷ v ∷ []) d s) o)) (sym e) h
 
-  pub at_method : (o : NativeOut) (m k : WriteNative) → m ≡ k → MeetsAt w old new had has (λ d s. write_method k ns b (u ∷ v ∷ []) d s) o → MeetsAt w old new had has (λ d s. write_method m ns b (u ∷ v ∷ []) d s) o
-  at_method o m k e h = subst (λ q. MeetsAt w old new had has (λ d s. write_method q ns b (u ∷ v ∷ []) d s) o) (sym e) h
+  pub at_method : (o : NativeOut) (m k : WriteNative) → m ≡ k → RefinesAt w old new had has (λ d s. write_method k ns b (u ∷ v ∷ []) d s) o → RefinesAt w old new had has (λ d s. write_method m ns b (u ∷ v ∷ []) d s) o
+  at_method o m k e h = subst (λ q. RefinesAt w old new had has (λ d s. write_method q ns b (u ∷ v ∷ []) d s) o) (sym e) h
 
 -- ## A native of this crate
 

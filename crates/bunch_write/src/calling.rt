@@ -9,7 +9,7 @@ ghost use Rattle.js_image.specs.Reads.{cell_in};
 ghost use Rattle.native_common.specs.Receivers.{IsReceiver, receiver};
 ghost use Rattle.page_image.specs.Image.{number};
 ghost use Rattle.native_image.specs.Image.{beside};
-ghost use Rattle.native_image.specs.Meets.{MeetsAt};
+ghost use Rattle.native_image.specs.Refines.{RefinesAt};
 ghost use Rattle.native_image.specs.Sound.{AreNodes, IsSound, KeepsAll};
 ghost use Rattle.bunch_write.specs.Part.{is_part};
 
@@ -53,7 +53,7 @@ pub fn call(
     requires sound { IsSound (number_in owner) store.old page.old around.old }
     requires receiver { IsReceiver (number_in owner) store.old.cells this.now }
     requires args { AreFine (number_in owner) store.old.cells args.now }
-    ensures native { IfOk result (λ o. MeetsAt (number_in owner)
+    ensures native { IfOk result (λ o. RefinesAt (number_in owner)
         (beside store.old page.old around.old bubbled.old)
         (beside store.new page.new around.new bubbled.new) meter.old meter.new
         (run_native which (receiver (number_in owner) store.old.cells this.now)
@@ -88,7 +88,7 @@ fn call_of(
     requires sound { IsSound w store.old page.old around.old }
     requires receiver { IsReceiver w store.old.cells this.now }
     requires args { AreFine w store.old.cells args.now }
-    ensures native { IfOk result (λ o. MeetsAt w
+    ensures native { IfOk result (λ o. RefinesAt w
         (beside store.old page.old around.old bubbled.old)
         (beside store.new page.new around.new bubbled.new) meter.old meter.new
         (run_native which (receiver w store.old.cells this.now) (all_seen w store.old.cells args.now)) o) }
@@ -149,7 +149,7 @@ fn change(
     requires first { IsFine w store.old.cells first.now }
     requires second { IsFine w store.old.cells second.now }
     requires sound { IsSound w store.old page.old around.old }
-    ensures native { (b : Option Bool) → IfOk result (λ o. MeetsAt w
+    ensures native { (b : Option Bool) → IfOk result (λ o. RefinesAt w
         (beside store.old page.old around.old b) (beside store.new page.new around.new b) meter.old meter.new
         (λ d s. write_method method (map (number page.old w) list.now) (seen w store.old.cells (Value.Ref this))
         (seen w store.old.cells first.now ∷ seen w store.old.cells second.now ∷ []) d s) o) }

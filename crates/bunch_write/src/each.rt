@@ -10,7 +10,7 @@ ghost use Rattle.js_values.specs.Fuel.{Fuel};
 ghost use Rattle.page_image.specs.Image.{number};
 ghost use Rattle.store_cells.specs.Cells.{Cells};
 ghost use Rattle.native_image.specs.Image.{beside};
-ghost use Rattle.native_image.specs.Meets.{EndsAt, MeetsAt};
+ghost use Rattle.native_image.specs.Refines.{EndsAt, RefinesAt};
 ghost use Rattle.native_image.specs.Sound.{AreNodes, IsSound, KeepsAll};
 ghost use Rattle.bunch_write.specs.Calls.{each_paid};
 
@@ -87,7 +87,7 @@ pub(crate) fn each(
     requires func { IsFine w store.old.cells func.now }
     requires sound { IsSound w store.old page.now around.now }
     ensures native { (b : Option Bool) → IfOk result (λ o.
-        MeetsAt w (beside store.old page.now around.now b) (beside store.new page.now around.now b) meter.old meter.new
+        RefinesAt w (beside store.old page.now around.now b) (beside store.new page.now around.now b) meter.old meter.new
         (λ d s. means.write_method names.Each (map (number page.now w) list.now)
         (seen w store.old.cells (Value.Ref this))
         (seen w store.old.cells func.now ∷ []) d s) o) }
@@ -105,7 +105,7 @@ pub(crate) fn each(
 /// `bubble()` marks the innermost dispatch; without one it is a fault.
 pub(crate) fn bubble(bubbled: &mut Option<bool>) -> NativeOut
     ensures { (w : ℕ) (s : Cells) (p : Page) (l : Loop) (f : Fuel) → IsSound w s p l
-        → MeetsAt w (beside s p l bubbled.old) (beside s p l bubbled.new) f f
+        → RefinesAt w (beside s p l bubbled.old) (beside s p l bubbled.new) f f
         (λ d t. dispatch.bubble t.dispatches t) result }
 {
     match bubbled {

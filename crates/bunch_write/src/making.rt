@@ -11,7 +11,7 @@ ghost use Rattle.js_image.specs.Image.{seen};
 ghost use Rattle.js_values.specs.Fuel.{Fuel};
 ghost use Rattle.native_common.specs.Numbers.{counted};
 ghost use Rattle.native_image.specs.Image.{beside};
-ghost use Rattle.native_image.specs.Meets.{MeetsAt};
+ghost use Rattle.native_image.specs.Refines.{RefinesAt};
 ghost use Rattle.native_image.specs.Sound.{IsSound, KeepsAll};
 ghost use Rattle.store_cells.specs.Cells.{PlainCell};
 
@@ -38,7 +38,7 @@ pub(crate) fn dom_text(
     requires widget { w < 32 }
     requires sound { (l : Loop) × IsSound w store.old page.old l }
     ensures native { (l : Loop) (b : Option Bool) (f : Fuel) (this : Option Meant) → IsSound w store.old page.old l
-        → IfOk result (λ o. MeetsAt w (beside store.old page.old l b) (beside store.new page.new l b) f f
+        → IfOk result (λ o. RefinesAt w (beside store.old page.old l b) (beside store.new page.new l b) f f
         (λ d s. means.dom_native names.DomText this (seen w store.old.cells value.now ∷ []) d s) o) }
     ensures kept { (l : Loop) → IsSound w store.old page.old l → KeepsAll w store.old store.new page.old page.new l }
 {
@@ -124,7 +124,7 @@ pub(crate) fn dom_tag(
     requires widget { w < 32 }
     requires sound { (l : Loop) × IsSound w store.old page.old l }
     ensures native { (l : Loop) (b : Option Bool) (f : Fuel) (this : Option Meant) → IsSound w store.old page.old l
-        → IfOk result (λ o. MeetsAt w (beside store.old page.old l b) (beside store.new page.new l b) f f
+        → IfOk result (λ o. RefinesAt w (beside store.old page.old l b) (beside store.new page.new l b) f f
         (λ d s. means.dom_native names.DomTag this
         (seen w store.old.cells name.now ∷ seen w store.old.cells kind.now ∷ []) d s) o) }
     ensures kept { (l : Loop) → IsSound w store.old page.old l → KeepsAll w store.old store.new page.old page.new l }

@@ -10,7 +10,7 @@ ghost use Rattle.js_image.specs.Image.{seen};
 ghost use Rattle.page_image.specs.Image.{HasRoot, forest, number, owns};
 ghost use Rattle.page_image.specs.Stays.{HostStays, KeepsNodes, OthersStay};
 ghost use Rattle.native_image.specs.Image.{beside};
-ghost use Rattle.native_image.specs.Meets.{MeetsAt};
+ghost use Rattle.native_image.specs.Refines.{RefinesAt};
 ghost use Rattle.native_image.specs.Sound.{AreNodes, IsSound, KeepsAll};
 ghost use Rattle.page_image.specs.Targets.{may_come};
 ghost use Rattle.widget_meaning.specs.Trees.{detached, moved, parent};
@@ -42,7 +42,7 @@ pub(crate) fn remove(
     requires home { HasRoot page.old w }
     requires held { IsHeld w store.old.cells this }
     ensures native { (l : Loop) (b : Option Bool) → IsSound w store.old page.old l → IfOk result (λ o.
-        MeetsAt w (beside store.old page.old l b) (beside store.new page.new l b) meter.old meter.new
+        RefinesAt w (beside store.old page.old l b) (beside store.new page.new l b) meter.old meter.new
         (λ d s. means.write_method names.Remove (map (number page.old w) list.now)
         (seen w store.old.cells (Value.Ref this)) [] d s) o) }
     ensures kept { (l : Loop) → IsSound w store.old page.old l → KeepsAll w store.old store.new page.old page.new l }
@@ -89,7 +89,7 @@ pub(crate) fn empty(
     requires home { HasRoot page.old w }
     requires held { IsHeld w store.old.cells this }
     ensures native { (l : Loop) (b : Option Bool) → IsSound w store.old page.old l
-        → MeetsAt w (beside store.old page.old l b) (beside store.new page.new l b) meter.old meter.new
+        → RefinesAt w (beside store.old page.old l b) (beside store.new page.new l b) meter.old meter.new
         (λ d s. means.write_method names.Empty (map (number page.old w) list.now)
         (seen w store.old.cells (Value.Ref this)) [] d s) result }
     ensures kept { (l : Loop) → IsSound w store.old page.old l → KeepsAll w store.old store.new page.old page.new l }
@@ -168,7 +168,7 @@ fn replace_by(
     requires news { (n : ℕ) → has_number news.now n ≡ true → owns page.old w n ≡ true }
     requires held { IsHeld w store.old.cells this }
     ensures native { (l : Loop) (b : Option Bool) → IsSound w store.old page.old l → IfOk result (λ o.
-        MeetsAt w (beside store.old page.old l b) (beside store.new page.new l b) meter.old meter.new
+        RefinesAt w (beside store.old page.old l b) (beside store.new page.new l b) meter.old meter.new
         (λ d s. replace_plan (number page.old w node) (map (number page.old w) news.now)
         (seen w store.old.cells (Value.Ref this)) s) o) }
     ensures kept { (l : Loop) → IsSound w store.old page.old l → KeepsAll w store.old store.new page.old page.new l }
@@ -202,7 +202,7 @@ pub(crate) fn replace(
     requires bunch { IsFine w store.old.cells bunch.now }
     requires sound { (l : Loop) × IsSound w store.old page.old l }
     ensures native { (l : Loop) (b : Option Bool) → IsSound w store.old page.old l → IfOk result (λ o.
-        MeetsAt w (beside store.old page.old l b) (beside store.new page.new l b) meter.old meter.new
+        RefinesAt w (beside store.old page.old l b) (beside store.new page.new l b) meter.old meter.new
         (λ d s. means.write_method names.Replace (map (number page.old w) list.now)
         (seen w store.old.cells (Value.Ref this))
         (seen w store.old.cells bunch.now ∷ []) d s) o) }

@@ -93,7 +93,8 @@ fn push_units_at(units: &mut Vec<u16>, text: &str, at: usize) -> Result<usize, M
 fn push_chars(units: &mut Vec<u16>, text: &str, from: usize) -> Result<usize, Memory>
     requires within { from ≤ length text.now }
     requires place { IsUtf8 (drop from text.now) }
-    ensures next { IfOk result (λ next. (from ≤ next) × (next ≤ length text.now) × (from < length text.now → from < next)) }
+    ensures next { IfOk result
+        (λ next. (from ≤ next) × (next ≤ length text.now) × (from < length text.now → from < next)) }
     ensures place { IfOk result (λ next. IsUtf8 (drop next text.now)) }
     ensures units { IfOk result (λ next.
         units.new.items ++ units_of (drop next text.now) ≡ units.old.items ++ units_of (drop from text.now)) }
@@ -183,7 +184,8 @@ fn push_encoded(units: &[u16], out: &mut Vec<u8>) -> Result<(), AllocError>
 fn push_encoded_at(units: &[u16], at: usize, out: &mut Vec<u8>) -> Result<usize, AllocError>
     requires { at < length units.now }
     ensures next { IfOk result (λ next. (at < next) × (next ≤ length units.now)) }
-    ensures ok { IfOk result (λ next. out.new.items ++ utf8_of (drop next units.now) ≡ out.old.items ++ utf8_of (drop at units.now)) }
+    ensures ok { IfOk result
+        (λ next. out.new.items ++ utf8_of (drop next units.now) ≡ out.old.items ++ utf8_of (drop at units.now)) }
     ensures front { (more : List ℕ) × (out.new.items ≡ out.old.items ++ more) }
 {
     let end = at + run(&units[at..], Kind::Ascii);
@@ -194,8 +196,10 @@ fn push_encoded_at(units: &[u16], at: usize, out: &mut Vec<u8>) -> Result<usize,
 // Appends the first code points from a place on in UTF-8, and gives where they end.
 fn push_code_points(units: &[u16], from: usize, out: &mut Vec<u8>) -> Result<usize, AllocError>
     requires { from ≤ length units.now }
-    ensures next { IfOk result (λ next. (from ≤ next) × (next ≤ length units.now) × (from < length units.now → from < next)) }
-    ensures ok { IfOk result (λ next. out.new.items ++ utf8_of (drop next units.now) ≡ out.old.items ++ utf8_of (drop from units.now)) }
+    ensures next { IfOk result
+        (λ next. (from ≤ next) × (next ≤ length units.now) × (from < length units.now → from < next)) }
+    ensures ok { IfOk result
+        (λ next. out.new.items ++ utf8_of (drop next units.now) ≡ out.old.items ++ utf8_of (drop from units.now)) }
     ensures front { (more : List ℕ) × (out.new.items ≡ out.old.items ++ more) }
 {
     let mut at = from;

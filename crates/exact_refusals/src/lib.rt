@@ -1,9 +1,13 @@
 //! Exact refusals, for readers that take one token at a time.
 //!
-//! A grammar is a relation between tokens with their depths and trees. Its machine takes one token at a time and sees nothing of what follows.
-//! Where the machine takes what the grammar spells and no more (complete and sound), and each state that it reaches can be led to an end (closable), the token at which it stops is the exact place of the refusal.
-//! A reader proves these three facts of its machine, and a fourth where it has a limit of depth: a token opens at most one link. `proofs/Exact.antt` then has what its contract says of refusals.
-//! A reader of texts that have no depth proves the three facts alone: for it `specs/Plain.antt` and `proofs/Plain.antt` say the same without a limit.
+//! A grammar is a relation between tokens with their depths and trees. Its machine takes one token at a time
+//! and sees nothing of what follows.
+//! Where the machine takes what the grammar spells and no more (complete and sound), and each state that it
+//! reaches can be led to an end (closable), the token at which it stops is the exact place of the refusal.
+//! A reader proves these three facts of its machine, and a fourth where it has a limit of depth: a token
+//! opens at most one link. `proofs/Exact.antt` then has what its contract says of refusals.
+//! A reader of texts that have no depth proves the three facts alone: for it `specs/Plain.antt` and
+//! `proofs/Plain.antt` say the same without a limit.
 //!
 //! The functions do nothing: their contracts are the laws, of the texts that a machine itself takes.
 #![tactic(auto)]

@@ -97,7 +97,8 @@ fn catch_name(tree: &Tree, id: StmtId) -> Option<&Text>
 // Whether a `try` has a `finally`.
 fn has_finally(tree: &Tree, id: StmtId) -> bool
     requires { IsStmt (trees tree.now) id }
-    ensures yes { IsTrue result → let b = finally_of (stmt_at (trees tree.now) id) in b ≡ plain.SomeBlock (finally_body b) }
+    ensures yes { IsTrue result
+        → let b = finally_of (stmt_at (trees tree.now) id) in b ≡ plain.SomeBlock (finally_body b) }
     ensures no { IsFalse result → finally_of (stmt_at (trees tree.now) id) ≡ plain.NoBlock }
 {
     matches!(tree.stmt(id), Stmt::Try(_, _, Some(_)))

@@ -66,7 +66,8 @@ pub(crate) fn for_in_on(
 #[cold]
 #[inline(never)]
 fn hand_object(run: &mut Run, how: Ended, id: StmtId, place: &Place) -> Result<Ended, Memory>
-    ensures { IfOk result (λ h. HandsOn run.old run.new how h (Frame.Statement (StatementFrame.ForInOver id place.now))) }
+    ensures { IfOk result (λ h. HandsOn run.old run.new how h
+        (Frame.Statement (StatementFrame.ForInOver id place.now))) }
 {
     match how {
         Ended::Left => wait(run, Frame::Statement(StatementFrame::ForInOver(id, *place))),

@@ -76,7 +76,8 @@ fn push_names(
 ) -> Result<(), Memory>
     requires cell { cell < length store.now.cells }
     requires behind { AllByRecursion (λ i. i < length store.now.cells) behind.now.items }
-    requires listed { (y : List ℕ) → properties.is_listed names.old.items y ≡ list_any (is_listed_in store.now.cells y) behind.now.items }
+    requires listed { (y : List ℕ)
+        → properties.is_listed names.old.items y ≡ list_any (is_listed_in store.now.cells y) behind.now.items }
     ensures { OnOk result (names.new.items ≡ properties.listed names.old.items (keys_at store.now.cells cell)) }
 {
     let own = store.keys(alloc, cell)?;
@@ -91,7 +92,8 @@ fn push_all(
     names: &mut Vec<Text>,
 ) -> Result<(), Memory>
     requires behind { AllByRecursion (λ i. i < length store.now.cells) behind.now.items }
-    requires listed { (y : List ℕ) → properties.is_listed names.old.items y ≡ list_any (is_listed_in store.now.cells y) behind.now.items }
+    requires listed { (y : List ℕ)
+        → properties.is_listed names.old.items y ≡ list_any (is_listed_in store.now.cells y) behind.now.items }
     ensures { OnOk result (names.new.items ≡ properties.listed names.old.items own.now.items) }
 {
     for name in own {

@@ -147,7 +147,8 @@ pub fn make_call_scope(
     requires names { IsDistinct bytes_eq (map (λ p. p.0) (first_values first.now)) }
     requires values { ArePairs w store.old.cells (first_values first.now) }
     ensures plan { IfOk result (λ m. (fs : List Forest) (r : Rest) (k : ℕ → State → Plan)
-        → costs.pay (costs.scope_cost (scope_of w store.old.cells outer (first_values first.now))) (image fs r w store.old)
+        → costs.pay (costs.scope_cost (scope_of w store.old.cells outer (first_values first.now)))
+        (image fs r w store.old)
         (λ t. k (length t.own.scopes) (with_new_scope t (scope_of w store.old.cells outer (first_values first.now))))
         ≡ scope_plan w store.new.cells m k (image fs r w store.new)) }
     ensures fine { IfOk result (λ m. IsScopeMade w store.new.cells m) }

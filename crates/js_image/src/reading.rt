@@ -24,7 +24,8 @@ pub fn get(store: &Store, base: &Value, name: &Text) -> Result<Value, Memory>
     requires { IsRefWithin (length store.now.cells) base.now }
     ensures found { IfOk result (λ v. (fs : List Forest) (r : Rest) (w : ℕ)
         → IsConfined fs w store.now → IsFine w store.now.cells base.now
-        → seen w store.now.cells v ≡ properties.get (image fs r w store.now) (seen w store.now.cells base.now) name.now) }
+        → seen w store.now.cells v
+        ≡ properties.get (image fs r w store.now) (seen w store.now.cells base.now) name.now) }
     ensures fine { IfOk result (λ v. (fs : List Forest) (w : ℕ)
         → IsConfined fs w store.now → IsFine w store.now.cells base.now → IsFine w store.now.cells v) }
 {
@@ -246,7 +247,8 @@ pub fn variable_at<'a>(store: &'a Store, scope: Option<CellId>, name: &Text) -> 
     requires { IfSome scope (λ i. i < length store.now.cells) }
     ensures found { (fs : List Forest) (r : Rest) (w d : ℕ)
         → IsConfined fs w store.now → IsPlaceScope w store.now.cells scope
-        → seen w store.now.cells (unwrap_or (option_copied result) Value.Undefined) ≡ scopes.variable (image fs r w store.now)
+        → seen w store.now.cells (unwrap_or (option_copied result) Value.Undefined)
+        ≡ scopes.variable (image fs r w store.now)
         (record { scope = option_map (scope_number w store.now.cells) scope; depth = d }) name.now }
     ensures fine { (fs : List Forest) (w : ℕ) → IsConfined fs w store.now → IsPlaceScope w store.now.cells scope
         → IsFine w store.now.cells (unwrap_or (option_copied result) Value.Undefined) }
@@ -282,7 +284,8 @@ fn in_scopes<'a>(store: &'a Store, scope: Option<CellId>, name: &Text) -> Option
 // The value of a listed global.
 #[inline(never)]
 fn global_at<'a>(store: &'a Store, name: &Text) -> Option<&'a Value>
-    ensures { unwrap_or (option_copied result) Value.Undefined ≡ shown_global (first_own name.now (readable store.now.cells global)) }
+    ensures { unwrap_or (option_copied result) Value.Undefined
+        ≡ shown_global (first_own name.now (readable store.now.cells global)) }
 {
     shown(store.get(store.global(), name))
 }

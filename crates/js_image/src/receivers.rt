@@ -138,7 +138,8 @@ pub fn new_indexes(store: &Store, base: &Value, len: u32) -> u32
     requires { IsRefWithin (length store.now.cells) base.now }
     ensures { (fs : List Forest) (r : Rest) (w m : ℕ) → IsFine w store.now.cells base.now
         → state.array_length (state.kind_of (image fs r w store.now) (seen w store.now.cells base.now)) ≡ Some m
-        → result ≡ changes.new_indexes (state.cell_at (image fs r w store.now) (own_place w store.now.cells base.now)) len }
+        → result ≡ changes.new_indexes
+        (state.cell_at (image fs r w store.now) (own_place w store.now.cells base.now)) len }
 {
     lawful(store);
     let count = count_of(store, base, len);
@@ -212,7 +213,8 @@ fn nodes_of(alloc: Global, store: &Store, base: &Value) -> Result<Option<Vec<u32
 pub fn has_own(store: &Store, base: &Value, name: &Text) -> bool
     requires { IsRefWithin (length store.now.cells) base.now }
     ensures { (fs : List Forest) (r : Rest) (w : ℕ) → IsConfined fs w store.now → IsFine w store.now.cells base.now
-        → result ≡ is_some (properties.own_property (image fs r w store.now) (seen w store.now.cells base.now) name.now) }
+        → result ≡ is_some (properties.own_property (image fs r w store.now)
+        (seen w store.now.cells base.now) name.now) }
 {
     lawful(store);
     own_of(store, base, name)

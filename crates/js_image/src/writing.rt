@@ -28,7 +28,8 @@ pub fn assign(store: &mut Store, w: u32, scope: Option<CellId>, name: &Text, val
     requires value { IsFine w store.old.cells value }
     ensures plan { (fs : List Forest) (r : Rest) (d : ℕ) → IsConfined fs w store.old
         → image fs r w store.new ≡ scopes.assign (image fs r w store.old)
-        (record { scope = option_map (scope_number w store.old.cells) scope; depth = d }) name.now (seen w store.old.cells value) }
+        (record { scope = option_map (scope_number w store.old.cells) scope; depth = d }) name.now
+        (seen w store.old.cells value) }
     ensures kept { (fs : List Forest) → IsConfined fs w store.old → Kept fs w store.old store.new }
 {
     lawful(store);
@@ -48,7 +49,8 @@ pub fn add_to(store: &mut Store, w: u32, scope: Option<CellId>, name: &Text, by:
     ensures within { IfSome result (λ z. nat_lt (unsigned_abs (z +ℤ by)) past_numbers ≡ true) }
     ensures plan { IfSome result (λ z. (fs : List Forest) (r : Rest) (d : ℕ) → IsConfined fs w store.old
         → image fs r w store.new ≡ scopes.assign (image fs r w store.old)
-        (record { scope = option_map (scope_number w store.old.cells) scope; depth = d }) name.now (meaning.Num (z +ℤ by))) }
+        (record { scope = option_map (scope_number w store.old.cells) scope; depth = d }) name.now
+        (meaning.Num (z +ℤ by))) }
     ensures none { IfNone result (store.new ≡ store.old) }
     ensures kept { (fs : List Forest) → IsConfined fs w store.old → Kept fs w store.old store.new }
 {
@@ -73,7 +75,8 @@ pub fn put(
     requires base { IsFine w store.old.cells base.now }
     requires value { IsFine w store.old.cells value }
     ensures plan { IfOk result (λ p. (fs : List Forest) (r : Rest) (k : State → Plan)
-        → properties.put (seen w store.old.cells base.now) name.now (seen w store.old.cells value) (image fs r w store.old) k
+        → properties.put (seen w store.old.cells base.now) name.now (seen w store.old.cells value)
+        (image fs r w store.old) k
         ≡ put_plan p k (image fs r w store.new)) }
     ensures kept { (fs : List Forest) → Kept fs w store.old store.new }
 {
@@ -95,7 +98,8 @@ fn put_in(
     requires held { IsHeld w store.old.cells cell }
     requires value { IsFine w store.old.cells value }
     ensures plan { IfOk result (λ p. (fs : List Forest) (r : Rest) (k : State → Plan)
-        → properties.put (seen w store.old.cells (Value.Ref cell)) name.now (seen w store.old.cells value) (image fs r w store.old) k
+        → properties.put (seen w store.old.cells (Value.Ref cell)) name.now (seen w store.old.cells value)
+        (image fs r w store.old) k
         ≡ put_plan p k (image fs r w store.new)) }
     ensures kept { (fs : List Forest) → Kept fs w store.old store.new }
 {
@@ -151,7 +155,8 @@ pub fn push_paid(
     requires value { IsFine w store.old.cells value }
     requires below { at < 4294967295 }
     ensures done { OnOk result ((fs : List Forest) (r : Rest) → PushedAt (own_count w store.old.cells array) at
-        (seen w store.old.cells (Value.Ref array)) (seen w store.old.cells value) (image fs r w store.old) (image fs r w store.new)) }
+        (seen w store.old.cells (Value.Ref array)) (seen w store.old.cells value) (image fs r w store.old)
+        (image fs r w store.new)) }
     ensures kept { (fs : List Forest) → Kept fs w store.old store.new }
 {
     if at < RULED {
@@ -168,7 +173,8 @@ fn push_index(store: &mut Store, w: u32, array: CellId, at: u32, value: Value) -
     requires value { IsFine w store.old.cells value }
     requires below { at < 4294967295 }
     ensures done { OnOk result ((fs : List Forest) (r : Rest) → PushedAt (own_count w store.old.cells array) at
-        (seen w store.old.cells (Value.Ref array)) (seen w store.old.cells value) (image fs r w store.old) (image fs r w store.new)) }
+        (seen w store.old.cells (Value.Ref array)) (seen w store.old.cells value) (image fs r w store.old)
+        (image fs r w store.new)) }
     ensures kept { (fs : List Forest) → Kept fs w store.old store.new }
 {
     lawful(store);
@@ -193,7 +199,8 @@ fn push_named(
     requires value { IsFine w store.old.cells value }
     requires below { at < 4294967295 }
     ensures done { OnOk result ((fs : List Forest) (r : Rest) → PushedAt (own_count w store.old.cells array) at
-        (seen w store.old.cells (Value.Ref array)) (seen w store.old.cells value) (image fs r w store.old) (image fs r w store.new)) }
+        (seen w store.old.cells (Value.Ref array)) (seen w store.old.cells value) (image fs r w store.old)
+        (image fs r w store.new)) }
     ensures kept { (fs : List Forest) → Kept fs w store.old store.new }
 {
     let name = index_name(alloc, at)?;

@@ -11,7 +11,7 @@ use Rattle.js_values.specs.Answers.{Answers, IsFineOut, IsOutOfFuel}
 use Rattle.js_values.specs.Fuel.{Fuel}
 
 -- What a native answers where its widget is confined, with the store and the fuel before and after it: it is what the plan gives, the widget may hold it, all fuel that was taken was spent, and nothing changed where fuel is wanting.
-pub record MeetsConfined (w : ℕ) (old new : Cells) (had has : Fuel) (plan : ℕ → State → Plan) (o : NativeOut) : Type 0 where
+pub record RefinesConfined (w : ℕ) (old new : Cells) (had has : Fuel) (plan : ℕ → State → Plan) (o : NativeOut) : Type 0 where
   pub answer : (fs : List Forest) (r : Rest) (node : ℕ → ℕ) (d : ℕ) → IsConfined fs w old
       → Answers (seen w new.cells) node d (plan d (image fs r w old)) (image fs r w old) o (image fs r w new) had.left has.left
   pub fine : IsFineOut w new.cells o

@@ -10,7 +10,7 @@ ghost use Rattle.widget_meaning.specs.Plan.{Halt, Plan};
 ghost use Rattle.js_image.specs.Held.{Kept};
 ghost use Rattle.js_image.specs.Image.{Rest, image, seen};
 ghost use Rattle.js_image.specs.Plans.{meant_cause};
-ghost use Rattle.native_common.specs.Meets.{Ends, Meets};
+ghost use Rattle.native_common.specs.Refines.{Ends, Refines};
 ghost use Rattle.native_common.specs.Numbers.{counted};
 ghost use Rattle.json_judge.specs.Verdicts.{Tells};
 ghost use Rattle.json_text.specs.Reading.{IsMade, Parses, born_plan, read_plan, weight_cost};
@@ -37,7 +37,7 @@ pub fn from_json(
     v: &Value,
 ) -> Result<NativeOut, Memory>
     requires { w < 32 }
-    ensures native { IfOk result (λ o. Meets w store.old store.new meter.old meter.new
+    ensures native { IfOk result (λ o. Refines w store.old store.new meter.old meter.new
         (λ d s. means.from_json (seen w store.old.cells v.now) s) o) }
     ensures memory { OnErr result ((fs : List Forest) → Kept fs w store.old store.new) }
 {
@@ -104,7 +104,7 @@ fn read_value(
     json: &Json,
 ) -> Result<NativeOut, Memory>
     requires { w < 32 }
-    ensures native { IfOk result (λ o. (n : ℕ) → extra ≡ counted n → Meets w store.old store.new meter.old meter.new
+    ensures native { IfOk result (λ o. (n : ℕ) → extra ≡ counted n → Refines w store.old store.new meter.old meter.new
         (λ d s. read_plan n (view json.now) s) o) }
     ensures memory { OnErr result ((fs : List Forest) → Kept fs w store.old store.new) }
 {

@@ -13,9 +13,9 @@ ghost use Rattle.js_image.specs.Elements.{own_place};
 ghost use Rattle.js_image.specs.Image.{Rest, image, seen, seen_pairs};
 ghost use Rattle.js_image.specs.Held.{ArePairs, IsConfined, IsFine, Kept};
 ghost use Rattle.js_values.specs.Operands.{IsPrimitive};
-ghost use Rattle.native_common.specs.Meets.{Meets};
+ghost use Rattle.native_common.specs.Refines.{Refines};
 ghost use Rattle.object_store.specs.Calls.{keys_at};
-ghost use Rattle.json_text.specs.Confined.{MeetsConfined};
+ghost use Rattle.json_text.specs.Confined.{RefinesConfined};
 ghost use Rattle.json_text.specs.Objects.{IsObjectAt, is_object_kind, object_in, pairs_at};
 ghost use Rattle.json_text.specs.Names.{comma};
 ghost use Rattle.json_text.specs.Steps.{meant_step};
@@ -49,7 +49,7 @@ pub fn to_json(
 ) -> Result<NativeOut, Memory>
     requires widget { w < 32 }
     requires value { IsFine w store.old.cells v.now }
-    ensures native { IfOk result (λ o. MeetsConfined w store.old store.new meter.old meter.new
+    ensures native { IfOk result (λ o. RefinesConfined w store.old store.new meter.old meter.new
         (λ d s. means.to_json (seen w store.old.cells v.now) s) o) }
     ensures memory { OnErr result ((fs : List Forest) → Kept fs w store.old store.new) }
 {
@@ -64,7 +64,7 @@ pub fn to_json(
 // The extra is the units of the text, and so is the cost.
 fn give_json(store: &mut Store, meter: &mut Meter, w: u32, text: Text) -> NativeOut
     requires { w < 32 }
-    ensures { Meets w store.old store.new meter.old meter.new (λ d s. means.give_json (Wrote text) s) result }
+    ensures { Refines w store.old store.new meter.old meter.new (λ d s. means.give_json (Wrote text) s) result }
 {
     match take(meter, text_len(&text)) {
         Err(_) => NativeOut::OutOfFuel,

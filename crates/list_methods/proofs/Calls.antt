@@ -18,9 +18,9 @@ use Rattle.widget_meaning.specs.NativeForms.{on_array}
 use Rattle.js_image.specs.Image.{Rest, image}
 use Rattle.js_values.specs.Fuel.{Fuel}
 use Rattle.js_values.specs.declared.outcome.NativeOut.{NativeOut}
-use Rattle.native_common.specs.Meets.{Meets}
+use Rattle.native_common.specs.Refines.{Refines}
 use Rattle.native_common.specs.Receivers.{receiver}
-use Rattle.native_common.proofs.Meeting.{ok_meets_same}
+use Rattle.native_common.proofs.Meeting.{ok_refines_same}
 use Rattle.list_methods.specs.declared.array.OwnArray.{OwnArray}
 use Rattle.list_methods.specs.Arrays.{number, on_own}
 use Rattle.list_methods.specs.Parts.{is_part, method}
@@ -45,11 +45,11 @@ module _ (w : ℕ) (s : Cells) (this : StoreValue) (o : Option OwnArray) (plan :
 -- an answer that meets what the native does with its Array meets the native
 pub answered : (w : ℕ) (old new : Cells) (this : StoreValue) (o : Option OwnArray) → ((fs : List Forest) (r : Rest) (k : ℕ → ℕ → Plan) → on_array (receiver w old.cells this) (image fs r w old) k ≡ on_own w old o (image fs r w old) k)
     → (which : NativeId) → is_part which ≡ true → (vs : List Value) (a : OwnArray) → o ≡ Some a → (is : NativeId) → which ≡ is
-    → (had has : Fuel) (result : Result NativeOut Memory) → IfOk result (Meets w old new had has (λ d s. method is (number w old a) a.len vs d s)) → IfOk result (Meets w old new had has (run_native which (receiver w old.cells this) vs))
+    → (had has : Fuel) (result : Result NativeOut Memory) → IfOk result (Refines w old new had has (λ d s. method is (number w old a) a.len vs d s)) → IfOk result (Refines w old new had has (run_native which (receiver w old.cells this) vs))
 answered w old new this o plan which part vs a here is same had has result h =
-    ok_meets_same w old new (run_native which (receiver w old.cells this) vs) (λ d s. method is (number w old a) a.len vs d s) result had has
+    ok_refines_same w old new (run_native which (receiver w old.cells this) vs) (λ d s. method is (number w old a) a.len vs d s) result had has
     (λ fs r d. called w old this o plan which part vs fs r d a here is same) h
 
 -- an answer that meets what a method does
-pub of_method : (w : ℕ) (old new : Cells) (n len : ℕ) (vs : List Value) (had has : Fuel) (result : Result NativeOut Memory) (m k : ListNative) → m ≡ k → IfOk result (Meets w old new had has (λ d s. list_method k n len vs d s)) → IfOk result (Meets w old new had has (λ d s. list_method m n len vs d s))
-of_method w old new n len vs had has result m k e h = subst (λ x. IfOk result (Meets w old new had has (λ d s. list_method x n len vs d s))) (sym e) h
+pub of_method : (w : ℕ) (old new : Cells) (n len : ℕ) (vs : List Value) (had has : Fuel) (result : Result NativeOut Memory) (m k : ListNative) → m ≡ k → IfOk result (Refines w old new had has (λ d s. list_method k n len vs d s)) → IfOk result (Refines w old new had has (λ d s. list_method m n len vs d s))
+of_method w old new n len vs had has result m k e h = subst (λ x. IfOk result (Refines w old new had has (λ d s. list_method x n len vs d s))) (sym e) h

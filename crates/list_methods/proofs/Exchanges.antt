@@ -15,7 +15,7 @@ use Rattle.widget_meaning.specs.ListChanges.{new_indexes}
 use Rattle.js_image.specs.declared.outcome.StopCause.TheVariants as cause
 use Rattle.js_image.specs.Image.{Rest, all_seen, image, seen}
 use Rattle.js_values.specs.declared.outcome.NativeOut.TheVariants as native
-use Rattle.native_common.specs.Meets.{Ends}
+use Rattle.native_common.specs.Refines.{Ends}
 use Rattle.native_common.proofs.Loops.{over_no, over_yes}
 use Rattle.list_methods.specs.declared.array.OwnArray.{OwnArray}
 use Rattle.list_methods.specs.Arrays.{IsArray, number}

@@ -25,7 +25,7 @@ use Rattle.js_image.specs.Plans.{PushedAt, meant_cause}
 use Rattle.js_image.proofs.Grown.{fine_stays, seen_stays}
 use Rattle.js_image.proofs.Units.{kept_then}
 use Rattle.js_values.specs.declared.outcome.NativeOut.TheVariants as native
-use Rattle.native_common.specs.Meets.{Ends}
+use Rattle.native_common.specs.Refines.{Ends}
 use Rattle.list_methods.specs.declared.array.OwnArray.{OwnArray}
 use Rattle.list_methods.specs.Arrays.{IsArray, number}
 use Rattle.list_methods.specs.Parts.{popped, put_last}

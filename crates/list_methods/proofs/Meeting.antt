@@ -22,9 +22,9 @@ use Rattle.js_values.specs.Answers.{IsOutOfFuel, Leaves}
 use Rattle.js_values.specs.declared.outcome.NativeOut.{NativeOut}
 use Rattle.js_values.specs.declared.outcome.NativeOut.TheVariants as native
 use Rattle.js_values.proofs.Answered.{charged_answers, lacking_answers}
-use Rattle.native_common.specs.Meets.{Ends, Meets}
+use Rattle.native_common.specs.Refines.{Ends, Refines}
 use Rattle.native_common.specs.Numbers.{counted}
-use Rattle.native_common.proofs.Meeting.{ends_here, meets_free}
+use Rattle.native_common.proofs.Meeting.{ends_here, refines_free}
 
 -- an answer that ends a plan is not want of fuel
 paid : (w : ℕ) (old new : Cells) (plan : ℕ → State → Plan) (o : NativeOut) → Ends w old new plan o → IsOutOfFuel o → ⊥
@@ -36,8 +36,8 @@ paid w old new plan (native.Stop c) h f = f
 
 module _ (w : ℕ) (old new : Cells) (n : State → ℕ) (asked : ℕ) (is : (fs : List Forest) (r : Rest) → asked ≡ counted (n (image fs r w old))) (plan : ℕ → State → Plan) (had has : Fuel) where
   -- a charge that was taken
-  pub meets_taken : (o : NativeOut) → ((k : ℕ) → asked ≡ counted k → (had.left ≡ k + has.left) × (has.spent ≡ had.spent + k)) → Ends w old new plan o → Meets w old new had has (λ d s. charge (n s) s (plan d s)) o
-  meets_taken o taken h = record {
+  pub refines_taken : (o : NativeOut) → ((k : ℕ) → asked ≡ counted k → (had.left ≡ k + has.left) × (has.spent ≡ had.spent + k)) → Ends w old new plan o → Refines w old new had has (λ d s. charge (n s) s (plan d s)) o
+  refines_taken o taken h = record {
     answer = λ fs r node d. charged_answers (seen w new.cells) node d (image fs r w old) (image fs r w new) o (n (image fs r w old)) (plan d (image fs r w old)) had.left has.left (taken (n (image fs r w old)) (is fs r)).0 (h.leaves fs r node d);
     fine = h.fine;
     spent = let t = taken (n (image [] no_rest w old)) (is [] no_rest) in omega (arith, t.0, t.1);
@@ -46,8 +46,8 @@ module _ (w : ℕ) (old new : Cells) (n : State → ℕ) (asked : ℕ) (is : (fs
   }
 
   -- a charge that is not there
-  pub meets_wanting : ((k : ℕ) → asked ≡ counted k → had.left < k) → has ≡ had → new ≡ old → Meets w old new had has (λ d s. charge (n s) s (plan d s)) native.OutOfFuel
-  meets_wanting lacks same unchanged = record {
+  pub refines_wanting : ((k : ℕ) → asked ≡ counted k → had.left < k) → has ≡ had → new ≡ old → Refines w old new had has (λ d s. charge (n s) s (plan d s)) native.OutOfFuel
+  refines_wanting lacks same unchanged = record {
     answer = λ fs r node d. lacking_answers (seen w new.cells) node d (image fs r w old) (image fs r w new) (n (image fs r w old)) (plan d (image fs r w old)) had.left has.left (lacks (n (image fs r w old)) (is fs r)) (ap (λ (f : Fuel). f.left) same);
     fine = tt;
     spent = ap (λ (f : Fuel). f.left + f.spent) same;
@@ -56,8 +56,8 @@ module _ (w : ℕ) (old new : Cells) (n : State → ℕ) (asked : ℕ) (is : (fs
   }
 
 -- too little fuel
-pub meets_short : (w : ℕ) (old new : Cells) (n : State → ℕ) (plan : ℕ → State → Plan) (had has : Fuel) → ((fs : List Forest) (r : Rest) → had.left < n (image fs r w old)) → has ≡ had → new ≡ old → Meets w old new had has (λ d s. charge (n s) s (plan d s)) native.OutOfFuel
-meets_short w old new n plan had has lacks same unchanged = record {
+pub refines_short : (w : ℕ) (old new : Cells) (n : State → ℕ) (plan : ℕ → State → Plan) (had has : Fuel) → ((fs : List Forest) (r : Rest) → had.left < n (image fs r w old)) → has ≡ had → new ≡ old → Refines w old new had has (λ d s. charge (n s) s (plan d s)) native.OutOfFuel
+refines_short w old new n plan had has lacks same unchanged = record {
   answer = λ fs r node d. lacking_answers (seen w new.cells) node d (image fs r w old) (image fs r w new) (n (image fs r w old)) (plan d (image fs r w old)) had.left has.left (lacks fs r) (ap (λ (f : Fuel). f.left) same);
   fine = tt;
   spent = ap (λ (f : Fuel). f.left + f.spent) same;
@@ -66,8 +66,8 @@ meets_short w old new n plan had has lacks same unchanged = record {
 }
 
 -- a plan by a number that is read off the state, where the answer meets it by every number that counts alike
-pub meets_each : (w : ℕ) (old new : Cells) (n : State → ℕ) (asked : ℕ) (plan : ℕ → ℕ → State → Plan) (had has : Fuel) (o : NativeOut) → ((fs : List Forest) (r : Rest) → asked ≡ counted (n (image fs r w old))) → ((m : ℕ) → asked ≡ counted m → Meets w old new had has (plan m) o) → Meets w old new had has (λ d s. plan (n s) d s) o
-meets_each w old new n asked plan had has o is h =
+pub refines_each : (w : ℕ) (old new : Cells) (n : State → ℕ) (asked : ℕ) (plan : ℕ → ℕ → State → Plan) (had has : Fuel) (o : NativeOut) → ((fs : List Forest) (r : Rest) → asked ≡ counted (n (image fs r w old))) → ((m : ℕ) → asked ≡ counted m → Refines w old new had has (plan m) o) → Refines w old new had has (λ d s. plan (n s) d s) o
+refines_each w old new n asked plan had has o is h =
     let one = h (n (image [] no_rest w old)) (is [] no_rest) in record {
       answer = λ fs r node d. (h (n (image fs r w old)) (is fs r)).answer fs r node d;
       fine = one.fine;
@@ -85,8 +85,8 @@ ends_after w old mid new p q o e kept h = record {
 }
 
 -- a fault before any charge
-pub thrown : (w : ℕ) (s : Cells) (plan : ℕ → State → Plan) (f : Fault) (had : Fuel) → ((fs : List Forest) (r : Rest) (d : ℕ) → plan d (image fs r w s) ≡ throw (meant_fault f) (image fs r w s)) → Meets w s s had had plan (native.Throw f)
-thrown w s plan f had h = meets_free w s s plan (native.Throw f) had (ends_here w s plan (native.Throw f) (λ fs r node d. h fs r d) tt)
+pub thrown : (w : ℕ) (s : Cells) (plan : ℕ → State → Plan) (f : Fault) (had : Fuel) → ((fs : List Forest) (r : Rest) (d : ℕ) → plan d (image fs r w s) ≡ throw (meant_fault f) (image fs r w s)) → Refines w s s had had plan (native.Throw f)
+thrown w s plan f had h = refines_free w s s plan (native.Throw f) had (ends_here w s plan (native.Throw f) (λ fs r node d. h fs r d) tt)
 
 -- a stop
 pub stop_ends : (w : ℕ) (old new : Cells) (plan : ℕ → State → Plan) (c : StopCause) → ((fs : List Forest) (r : Rest) (d : ℕ) → plan d (image fs r w old) ≡ Halt (meant_cause c) (image fs r w new)) → ((fs : List Forest) → Kept fs w old new) → Ends w old new plan (native.Stop c)

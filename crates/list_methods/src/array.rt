@@ -14,7 +14,7 @@ ghost use Rattle.widget_meaning.specs.ListChanges as changes;
 ghost use Rattle.js_image.specs.Image.{Rest, all_seen, image, seen};
 ghost use Rattle.js_image.specs.Held.{AreFine, IsConfined, IsFine};
 ghost use Rattle.js_image.specs.Reads.{cell_in};
-ghost use Rattle.native_common.specs.Meets.{Ends, Meets};
+ghost use Rattle.native_common.specs.Refines.{Ends, Refines};
 ghost use Rattle.native_common.specs.Numbers.{counted};
 ghost use Rattle.native_common.specs.Receivers.{IsReceiver, receiver};
 ghost use Rattle.list_methods.specs.Arrays.{IsArray, number, on_own};
@@ -129,7 +129,7 @@ pub(crate) fn extra(store: &Store, w: u32, len: u32, args: &[Value]) -> usize
 pub(crate) fn charged(meter: &mut Meter, asked: usize, out: NativeOut) -> NativeOut
     ensures { (w : ℕ) (s : Cells) (plan : ℕ → State → Plan) (n : State → ℕ)
         → ((fs : List Forest) (r : Rest) → asked ≡ counted (n (image fs r w s))) → Ends w s s plan out
-        → Meets w s s meter.old meter.new (λ d t. charge (n t) t (plan d t)) result }
+        → Refines w s s meter.old meter.new (λ d t. charge (n t) t (plan d t)) result }
 {
     match take(meter, asked) {
         Ok(()) => out,

@@ -6,7 +6,7 @@ ghost use Rattle.widget_meaning.specs.ListNatives.{list_method};
 ghost use Rattle.widget_meaning.specs.Natives.{run_native};
 ghost use Rattle.js_image.specs.Image.{all_seen};
 ghost use Rattle.js_image.specs.Held.{AreFine, IsConfined, Kept};
-ghost use Rattle.native_common.specs.Meets.{Meets};
+ghost use Rattle.native_common.specs.Refines.{Refines};
 ghost use Rattle.native_common.specs.Receivers.{IsReceiver, receiver};
 ghost use Rattle.list_methods.specs.Arrays.{IsArray, number};
 ghost use Rattle.list_methods.specs.Parts.{is_part};
@@ -42,7 +42,7 @@ pub fn call(
     requires confined { (fs : List Forest) × IsConfined fs (number_in owner) store.old }
     requires receiver { IsReceiver (number_in owner) store.old.cells this.now }
     requires args { AreFine (number_in owner) store.old.cells args.now }
-    ensures native { IfOk result (λ o. Meets (number_in owner) store.old store.new meter.old meter.new
+    ensures native { IfOk result (λ o. Refines (number_in owner) store.old store.new meter.old meter.new
         (run_native which (receiver (number_in owner) store.old.cells this.now)
         (all_seen (number_in owner) store.old.cells args.now)) o) }
     ensures memory { OnErr result ((fs : List Forest) → Kept fs (number_in owner) store.old store.new) }
@@ -68,7 +68,7 @@ fn of_widget(
     requires confined { (fs : List Forest) × IsConfined fs w store.old }
     requires receiver { IsReceiver w store.old.cells this.now }
     requires args { AreFine w store.old.cells args.now }
-    ensures native { IfOk result (λ o. Meets w store.old store.new meter.old meter.new
+    ensures native { IfOk result (λ o. Refines w store.old store.new meter.old meter.new
         (run_native which (receiver w store.old.cells this.now) (all_seen w store.old.cells args.now)) o) }
     ensures memory { OnErr result ((fs : List Forest) → Kept fs w store.old store.new) }
 {
@@ -96,7 +96,7 @@ fn of_array(
     requires array { IsArray w store.old array }
     requires confined { (fs : List Forest) × IsConfined fs w store.old }
     requires args { AreFine w store.old.cells args.now }
-    ensures native { IfOk result (λ o. Meets w store.old store.new meter.old meter.new
+    ensures native { IfOk result (λ o. Refines w store.old store.new meter.old meter.new
         (λ d s. list_method method (number w store.old array) array.len (all_seen w store.old.cells args.now) d s) o) }
     ensures memory { OnErr result ((fs : List Forest) → Kept fs w store.old store.new) }
 {

@@ -10,7 +10,7 @@ ghost use Rattle.widget_meaning.specs.ListChanges as changes;
 ghost use Rattle.widget_meaning.specs.ListNatives as means;
 ghost use Rattle.js_image.specs.Image.{Rest, all_seen, image, seen};
 ghost use Rattle.js_image.specs.Held.{AreFine, IsConfined, IsFine, Kept};
-ghost use Rattle.native_common.specs.Meets.{Ends, Meets};
+ghost use Rattle.native_common.specs.Refines.{Ends, Refines};
 ghost use Rattle.native_common.specs.Numbers as numbers;
 ghost use Rattle.list_methods.specs.Arrays.{IsArray, number};
 
@@ -35,7 +35,7 @@ pub(crate) fn concat(
     requires array { IsArray w store.old array }
     requires confined { (fs : List Forest) × IsConfined fs w store.old }
     requires args { AreFine w store.old.cells args.now }
-    ensures native { IfOk result (λ o. Meets w store.old store.new meter.old meter.new
+    ensures native { IfOk result (λ o. Refines w store.old store.new meter.old meter.new
         (λ d s. means.list_concat (number w store.old array) array.len (all_seen w store.old.cells args.now) s) o) }
     ensures memory { OnErr result ((fs : List Forest) → Kept fs w store.old store.new) }
 {
@@ -125,7 +125,7 @@ pub(crate) fn slice(
     requires array { IsArray w store.old array }
     requires confined { (fs : List Forest) × IsConfined fs w store.old }
     requires args { AreFine w store.old.cells args.now }
-    ensures native { IfOk result (λ o. Meets w store.old store.new meter.old meter.new
+    ensures native { IfOk result (λ o. Refines w store.old store.new meter.old meter.new
         (λ d s. means.list_slice (number w store.old array) array.len
         (meaning.nth 0 (all_seen w store.old.cells args.now)) (meaning.nth 1 (all_seen w store.old.cells args.now))
         (changes.list_extra array.len (all_seen w store.old.cells args.now) s) s) o) }

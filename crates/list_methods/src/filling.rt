@@ -5,7 +5,7 @@ ghost use Rattle.widget_meaning.specs.OwnState as state;
 ghost use Rattle.widget_meaning.specs.ListChanges as changes;
 ghost use Rattle.js_image.specs.Image.{Rest, all_seen, image, seen};
 ghost use Rattle.js_image.specs.Held.{AreFine, IsFine, Kept};
-ghost use Rattle.native_common.specs.Meets.{Ends};
+ghost use Rattle.native_common.specs.Refines.{Ends};
 ghost use Rattle.list_methods.specs.Arrays.{IsArray, number};
 
 use crate::array::OwnArray;

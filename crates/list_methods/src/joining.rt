@@ -11,7 +11,7 @@ ghost use Rattle.widget_meaning.specs.ListNatives as means;
 ghost use Rattle.widget_meaning.specs.PrototypeNatives as prototypes;
 ghost use Rattle.js_image.specs.Image.{Rest, all_seen, image, seen};
 ghost use Rattle.js_image.specs.Held.{AreFine, IsConfined, Kept};
-ghost use Rattle.native_common.specs.Meets.{Meets};
+ghost use Rattle.native_common.specs.Refines.{Refines};
 ghost use Rattle.native_common.specs.Numbers.{counted};
 ghost use Rattle.list_methods.specs.Arrays.{IsArray, number};
 ghost use Rattle.list_methods.specs.Parts.{joined_next};
@@ -37,7 +37,7 @@ pub(crate) fn join(
     requires array { IsArray w store.old array }
     requires confined { (fs : List Forest) × IsConfined fs w store.old }
     requires args { AreFine w store.old.cells args.now }
-    ensures native { IfOk result (λ o. Meets w store.old store.new meter.old meter.new
+    ensures native { IfOk result (λ o. Refines w store.old store.new meter.old meter.new
         (λ d s. means.join (number w store.old array) array.len (meaning.nth 0 (all_seen w store.old.cells args.now))
         (changes.list_extra array.len (all_seen w store.old.cells args.now) s) s) o) }
     ensures memory { OnErr result ((fs : List Forest) → Kept fs w store.old store.new) }
@@ -66,7 +66,7 @@ pub(crate) fn to_string(
     requires widget { w < 32 }
     requires array { IsArray w store.old array }
     requires confined { (fs : List Forest) × IsConfined fs w store.old }
-    ensures native { IfOk result (λ o. Meets w store.old store.new meter.old meter.new
+    ensures native { IfOk result (λ o. Refines w store.old store.new meter.old meter.new
         (λ d s. prototypes.array_to_string (number w store.old array) array.len s) o) }
     ensures memory { OnErr result ((fs : List Forest) → Kept fs w store.old store.new) }
 {
@@ -118,7 +118,7 @@ fn give_joined(
     requires confined { (fs : List Forest) × IsConfined fs w store.old }
     ensures native { IfOk result (λ o. (n : State → ℕ)
         → ((fs : List Forest) (r : Rest) → joining.asked ≡ counted (n (image fs r w store.old)))
-        → Meets w store.old store.new meter.old meter.new
+        → Refines w store.old store.new meter.old meter.new
         (λ d s. forms.give_text (n s)
         (join_by means.joined_text joining.separator (forms.elements s (number w store.old array) array.len)) s) o) }
     ensures memory { OnErr result ((fs : List Forest) → Kept fs w store.old store.new) }

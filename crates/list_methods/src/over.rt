@@ -9,7 +9,7 @@ ghost use Rattle.widget_meaning.specs.ListNatives as means;
 ghost use Rattle.js_image.specs.Image.{Rest, all_seen, image, seen};
 ghost use Rattle.js_image.specs.Held.{AreFine, IsConfined, IsFine, IsHeld};
 ghost use Rattle.js_values.specs.Answers.{gathered};
-ghost use Rattle.native_common.specs.Meets.{Ends, Meets};
+ghost use Rattle.native_common.specs.Refines.{Ends, Refines};
 ghost use Rattle.list_methods.specs.Arrays.{IsArray, number};
 ghost use Rattle.list_methods.specs.Parts.{is_function_callee};
 
@@ -40,7 +40,7 @@ pub(crate) fn over(
     requires array { IsArray w store.now calls.array }
     requires confined { (fs : List Forest) × IsConfined fs w store.now }
     requires args { AreFine w store.now.cells args.now }
-    ensures native { IfOk result (λ o. Meets w store.now store.now meter.old meter.new
+    ensures native { IfOk result (λ o. Refines w store.now store.now meter.old meter.new
         (λ d s. means.over (number w store.now calls.array) calls.array.len
         (meaning.nth 0 (all_seen w store.now.cells args.now)) d s
         (gathered calls.keep (forms.elements s (number w store.now calls.array) calls.array.len))) o) }

@@ -7,7 +7,7 @@ ghost use Rattle.widget_meaning.specs.NativeForms as forms;
 ghost use Rattle.widget_meaning.specs.ListChanges as changes;
 ghost use Rattle.js_image.specs.Image.{all_seen};
 ghost use Rattle.js_image.specs.Held.{AreFine, IsConfined, Kept};
-ghost use Rattle.native_common.specs.Meets.{Ends, Meets};
+ghost use Rattle.native_common.specs.Refines.{Ends, Refines};
 ghost use Rattle.list_methods.specs.Arrays.{IsArray, number};
 
 use crate::array::{OwnArray, arg_count, extra, number_value, share_all, values_of};
@@ -32,7 +32,7 @@ pub(crate) fn shift(
     requires array { IsArray w store.old array }
     requires confined { (fs : List Forest) × IsConfined fs w store.old }
     requires args { AreFine w store.old.cells args.now }
-    ensures native { IfOk result (λ o. Meets w store.old store.new meter.old meter.new
+    ensures native { IfOk result (λ o. Refines w store.old store.new meter.old meter.new
         (λ d s. changes.shift (number w store.old array) array.len (all_seen w store.old.cells args.now) s) o) }
     ensures memory { OnErr result ((fs : List Forest) → Kept fs w store.old store.new) }
 {
@@ -91,7 +91,7 @@ pub(crate) fn unshift(
     requires array { IsArray w store.old array }
     requires confined { (fs : List Forest) × IsConfined fs w store.old }
     requires args { AreFine w store.old.cells args.now }
-    ensures native { IfOk result (λ o. Meets w store.old store.new meter.old meter.new
+    ensures native { IfOk result (λ o. Refines w store.old store.new meter.old meter.new
         (λ d s. changes.unshift (number w store.old array) array.len (all_seen w store.old.cells args.now) s) o) }
     ensures memory { OnErr result ((fs : List Forest) → Kept fs w store.old store.new) }
 {
@@ -155,7 +155,7 @@ pub(crate) fn reverse(
     requires array { IsArray w store.old array }
     requires confined { (fs : List Forest) × IsConfined fs w store.old }
     requires args { AreFine w store.old.cells args.now }
-    ensures native { IfOk result (λ o. Meets w store.old store.new meter.old meter.new
+    ensures native { IfOk result (λ o. Refines w store.old store.new meter.old meter.new
         (λ d s. changes.reverse (number w store.old array) array.len (all_seen w store.old.cells args.now) s) o) }
     ensures memory { OnErr result ((fs : List Forest) → Kept fs w store.old store.new) }
 {

@@ -15,7 +15,7 @@ use Rattle.js_values.specs.Answers.{Answers, IsFineOut, IsOutOfFuel, Leaves}
 use Rattle.js_values.specs.declared.outcome.NativeOut.{NativeOut}
 use Rattle.js_values.specs.declared.outcome.NativeOut.TheVariants as native
 use Rattle.js_values.proofs.Answered.{charged, charged_answers, free_answers, lacking_answers}
-use Rattle.native_common.specs.Meets.{Ends, Meets}
+use Rattle.native_common.specs.Refines.{Ends, Refines}
 
 -- an answer that ends a plan is not want of fuel
 paid : (w : ℕ) (old new : Cells) (plan : ℕ → State → Plan) (o : NativeOut) → Ends w old new plan o → IsOutOfFuel o → ⊥
@@ -30,8 +30,8 @@ pub ends_here : (w : ℕ) (s : Cells) (plan : ℕ → State → Plan) (o : Nativ
 ends_here w s plan o h fine = record { leaves = h; fine = fine; kept = λ fs. kept_same fs w s s refl }
 
 -- an answer before any charge
-pub meets_free : (w : ℕ) (old new : Cells) (plan : ℕ → State → Plan) (o : NativeOut) (had : Fuel) → Ends w old new plan o → Meets w old new had had plan o
-meets_free w old new plan o had h = record {
+pub refines_free : (w : ℕ) (old new : Cells) (plan : ℕ → State → Plan) (o : NativeOut) (had : Fuel) → Ends w old new plan o → Refines w old new had had plan o
+refines_free w old new plan o had h = record {
   answer = λ fs r node d. free_answers (seen w new.cells) node d (image fs r w old) (image fs r w new) o (plan d (image fs r w old)) had.left had.left refl (h.leaves fs r node d);
   fine = h.fine;
   spent = refl;
@@ -40,8 +40,8 @@ meets_free w old new plan o had h = record {
 }
 
 -- a charge was taken, and the answer is what is left
-pub meets_charged : (w : ℕ) (old new : Cells) (n : ℕ) (plan : ℕ → State → Plan) (o : NativeOut) (had has : Fuel) → had.left ≡ n + has.left → has.spent ≡ had.spent + n → Ends w old new plan o → Meets w old new had has (λ d s. charge n s (plan d s)) o
-meets_charged w old new n plan o had has left spent h = record {
+pub refines_charged : (w : ℕ) (old new : Cells) (n : ℕ) (plan : ℕ → State → Plan) (o : NativeOut) (had has : Fuel) → had.left ≡ n + has.left → has.spent ≡ had.spent + n → Ends w old new plan o → Refines w old new had has (λ d s. charge n s (plan d s)) o
+refines_charged w old new n plan o had has left spent h = record {
   answer = λ fs r node d. charged_answers (seen w new.cells) node d (image fs r w old) (image fs r w new) o n (plan d (image fs r w old)) had.left has.left left (h.leaves fs r node d);
   fine = h.fine;
   spent = omega (arith, left, spent);
@@ -50,8 +50,8 @@ meets_charged w old new n plan o had has left spent h = record {
 }
 
 -- a charge that is not there
-pub meets_lacking : (w : ℕ) (old : Cells) (n : ℕ) (plan : ℕ → State → Plan) (had : Fuel) → had.left < n → Meets w old old had had (λ d s. charge n s (plan d s)) native.OutOfFuel
-meets_lacking w old n plan had lt = record {
+pub refines_lacking : (w : ℕ) (old : Cells) (n : ℕ) (plan : ℕ → State → Plan) (had : Fuel) → had.left < n → Refines w old old had had (λ d s. charge n s (plan d s)) native.OutOfFuel
+refines_lacking w old n plan had lt = record {
   answer = λ fs r node d. lacking_answers (seen w old.cells) node d (image fs r w old) (image fs r w old) n (plan d (image fs r w old)) had.left had.left lt refl;
   fine = tt;
   spent = refl;
@@ -60,8 +60,8 @@ meets_lacking w old n plan had lt = record {
 }
 
 -- a plan that is the same at the image
-pub meets_same : (w : ℕ) (old new : Cells) (p q : ℕ → State → Plan) (o : NativeOut) (had has : Fuel) → ((fs : List Forest) (r : Rest) (d : ℕ) → p d (image fs r w old) ≡ q d (image fs r w old)) → Meets w old new had has q o → Meets w old new had has p o
-meets_same w old new p q o had has e h = record {
+pub refines_same : (w : ℕ) (old new : Cells) (p q : ℕ → State → Plan) (o : NativeOut) (had has : Fuel) → ((fs : List Forest) (r : Rest) (d : ℕ) → p d (image fs r w old) ≡ q d (image fs r w old)) → Refines w old new had has q o → Refines w old new had has p o
+refines_same w old new p q o had has e h = record {
   answer = λ fs r node d. subst (λ (x : Plan). Answers (seen w new.cells) node d x (image fs r w old) o (image fs r w new) had.left has.left) (sym (e fs r d)) (h.answer fs r node d);
   fine = h.fine;
   spent = h.spent;
@@ -74,8 +74,8 @@ nothing : (body : Job → State → Plan) (g : ℕ) (s : State) (p : Plan) → r
 nothing body g s p = let e : g ≡ 0 + g = omega arith in ap (λ x. run body x (charge 0 s p)) e ∙ (charged 0 s p).on body g
 
 -- a charge of nothing
-pub meets_zero : (w : ℕ) (old new : Cells) (plan : ℕ → State → Plan) (o : NativeOut) (had has : Fuel) → Meets w old new had has plan o → Meets w old new had has (λ d s. charge 0 s (plan d s)) o
-meets_zero w old new plan o had has h = record {
+pub refines_zero : (w : ℕ) (old new : Cells) (plan : ℕ → State → Plan) (o : NativeOut) (had has : Fuel) → Refines w old new had has plan o → Refines w old new had has (λ d s. charge 0 s (plan d s)) o
+refines_zero w old new plan o had has h = record {
   answer = λ fs r node d.
       let s = image fs r w old in
       let p = plan d s in record {
@@ -105,13 +105,13 @@ ends_same w old new p q o e h = record { leaves = λ fs r node d. moved (seen w 
 pub ok_ends_same : (w : ℕ) (old new : Cells) (p q : ℕ → State → Plan) (result : Result NativeOut Memory) → ((fs : List Forest) (r : Rest) (d : ℕ) → p d (image fs r w old) ≡ q d (image fs r w old)) → IfOk result (Ends w old new q) → IfOk result (Ends w old new p)
 ok_ends_same w old new p q result e h = IfOk-weaker result (Ends w old new q) (Ends w old new p) (λ o x. ends_same w old new p q o e x) h
 
-pub ok_meets_same : (w : ℕ) (old new : Cells) (p q : ℕ → State → Plan) (result : Result NativeOut Memory) (had has : Fuel) → ((fs : List Forest) (r : Rest) (d : ℕ) → p d (image fs r w old) ≡ q d (image fs r w old)) → IfOk result (Meets w old new had has q) → IfOk result (Meets w old new had has p)
-ok_meets_same w old new p q result had has e h = IfOk-weaker result (Meets w old new had has q) (Meets w old new had has p) (λ o x. meets_same w old new p q o had has e x) h
+pub ok_refines_same : (w : ℕ) (old new : Cells) (p q : ℕ → State → Plan) (result : Result NativeOut Memory) (had has : Fuel) → ((fs : List Forest) (r : Rest) (d : ℕ) → p d (image fs r w old) ≡ q d (image fs r w old)) → IfOk result (Refines w old new had has q) → IfOk result (Refines w old new had has p)
+ok_refines_same w old new p q result had has e h = IfOk-weaker result (Refines w old new had has q) (Refines w old new had has p) (λ o x. refines_same w old new p q o had has e x) h
 
 -- after a charge that is taken, what ends the rest meets the whole
-pub ok_charged : (w : ℕ) (old new : Cells) (n : ℕ) (plan : ℕ → State → Plan) (result : Result NativeOut Memory) (had has : Fuel) → had.left ≡ n + has.left → has.spent ≡ had.spent + n → IfOk result (Ends w old new plan) → IfOk result (Meets w old new had has (λ d s. charge n s (plan d s)))
-ok_charged w old new n plan result had has left spent h = IfOk-weaker result (Ends w old new plan) (Meets w old new had has (λ d s. charge n s (plan d s))) (λ o x. meets_charged w old new n plan o had has left spent x) h
+pub ok_charged : (w : ℕ) (old new : Cells) (n : ℕ) (plan : ℕ → State → Plan) (result : Result NativeOut Memory) (had has : Fuel) → had.left ≡ n + has.left → has.spent ≡ had.spent + n → IfOk result (Ends w old new plan) → IfOk result (Refines w old new had has (λ d s. charge n s (plan d s)))
+ok_charged w old new n plan result had has left spent h = IfOk-weaker result (Ends w old new plan) (Refines w old new had has (λ d s. charge n s (plan d s))) (λ o x. refines_charged w old new n plan o had has left spent x) h
 
 -- an answer before any charge
-pub ok_free : (w : ℕ) (old new : Cells) (plan : ℕ → State → Plan) (result : Result NativeOut Memory) (had : Fuel) → IfOk result (Ends w old new plan) → IfOk result (Meets w old new had had plan)
-ok_free w old new plan result had h = IfOk-weaker result (Ends w old new plan) (Meets w old new had had plan) (λ o x. meets_free w old new plan o had x) h
+pub ok_free : (w : ℕ) (old new : Cells) (plan : ℕ → State → Plan) (result : Result NativeOut Memory) (had : Fuel) → IfOk result (Ends w old new plan) → IfOk result (Refines w old new had had plan)
+ok_free w old new plan result had h = IfOk-weaker result (Ends w old new plan) (Refines w old new had had plan) (λ o x. refines_free w old new plan o had x) h

@@ -1,3 +1,3 @@
 pub mod Receivers
 pub mod Numbers
-pub mod Meets
+pub mod Refines

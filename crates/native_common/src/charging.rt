@@ -5,7 +5,7 @@ ghost use Rattle.widget_meaning.specs.OwnState.{State};
 ghost use Rattle.widget_meaning.specs.Plan.{Plan, charge};
 ghost use Rattle.widget_meaning.specs.Expressions as expressions;
 ghost use Rattle.js_values.specs.Operands.{meant_out};
-ghost use Rattle.native_common.specs.Meets.{Ends, Meets};
+ghost use Rattle.native_common.specs.Refines.{Ends, Refines};
 ghost use Rattle.native_common.specs.Numbers.{IsSmallOut, counted};
 
 use js_values::{Meter, NativeOut, OpOut, OutOfFuel, StopCause};
@@ -30,7 +30,7 @@ pub fn take(meter: &mut Meter, asked: usize) -> Result<(), OutOfFuel>
 /// What is given after a charge, where nothing is made.
 pub fn charged(meter: &mut Meter, asked: usize, out: NativeOut) -> NativeOut
     ensures { (w : ℕ) (s : Cells) (plan : ℕ → State → Plan) (n : ℕ) → asked ≡ counted n → Ends w s s plan out
-        → Meets w s s meter.old meter.new (λ d t. charge n t (plan d t)) result }
+        → Refines w s s meter.old meter.new (λ d t. charge n t (plan d t)) result }
 {
     match take(meter, asked) {
         Ok(()) => out,

@@ -7,7 +7,7 @@ ghost use Rattle.widget_meaning.specs.Costs as costs;
 ghost use Rattle.widget_meaning.specs.NativeForms as forms;
 ghost use Rattle.js_image.specs.Held.{AreFine, Kept};
 ghost use Rattle.js_image.specs.Image.{all_seen};
-ghost use Rattle.native_common.specs.Meets.{Ends, Meets};
+ghost use Rattle.native_common.specs.Refines.{Ends, Refines};
 ghost use Rattle.native_common.specs.Numbers.{counted};
 
 use crate::arguments::text_len;
@@ -39,7 +39,7 @@ pub fn give_text(
 ) -> NativeOut
     requires { w < 32 }
     ensures { (n : ℕ) → extra ≡ counted n
-        → Meets w store.old store.new meter.old meter.new (λ d s. forms.give_text n text s) result }
+        → Refines w store.old store.new meter.old meter.new (λ d s. forms.give_text n text s) result }
 {
     match take(meter, extra.saturating_add(text.units().len())) {
         Ok(()) => make_text(store, w, text),
@@ -58,7 +58,7 @@ pub fn give_units(
 ) -> Result<NativeOut, Memory>
     requires { w < 32 }
     ensures native { IfOk result (λ o. (n : ℕ) → extra ≡ counted n
-        → Meets w store.old store.new meter.old meter.new (λ d s. forms.give_text n units.now s) o) }
+        → Refines w store.old store.new meter.old meter.new (λ d s. forms.give_text n units.now s) o) }
     ensures memory { OnErr result ((fs : List Forest) → Kept fs w store.old store.new) }
 {
     let text = Text::from_units(alloc, Vec::from_slice(alloc, units)?)?;

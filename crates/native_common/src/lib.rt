@@ -13,4 +13,4 @@ pub use arguments::{
 };
 pub use charging::{charged, given, take};
 pub use giving::{give_array, give_text, give_texts, give_units, make_text};
-pub use laws::meets;
+pub use laws::refines;

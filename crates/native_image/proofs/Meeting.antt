@@ -10,12 +10,12 @@ use Rattle.js_values.specs.Fuel.{Fuel}
 use Rattle.js_values.specs.declared.outcome.NativeOut.{NativeOut}
 use Rattle.js_values.specs.declared.outcome.NativeOut.TheVariants as native
 use Rattle.js_values.proofs.Answered.{charged_answers, free_answers, lacking_answers}
-use Rattle.native_common.specs.Meets.{Ends, Meets}
+use Rattle.native_common.specs.Refines.{Ends, Refines}
 use Rattle.page_tree.specs.declared.page.Page.{Page}
 use Rattle.page_image.specs.Image.{number}
 use Rattle.event_loop.specs.declared.around.Loop.{Loop}
 use Rattle.native_image.specs.Image.{Outside, Parts, beside, image}
-use Rattle.native_image.specs.Meets.{EndsAt, FiresAtOwn, MeetsAt, Reads}
+use Rattle.native_image.specs.Refines.{EndsAt, FiresAtOwn, RefinesAt, Reads}
 use Rattle.native_image.specs.Sound.{IsSound}
 use Rattle.native_image.proofs.Joint.{rest, sound_stays, store_lift}
 
@@ -32,7 +32,7 @@ module _ (w : ℕ) (old new : Parts) where
   paid plan (native.Stop c) h f = f
 
   -- an answer before any charge
-  pub at_free : (plan : ℕ → State → Plan) (o : NativeOut) (had : Fuel) → EndsAt w old new plan o → MeetsAt w old new had had plan o
+  pub at_free : (plan : ℕ → State → Plan) (o : NativeOut) (had : Fuel) → EndsAt w old new plan o → RefinesAt w old new had had plan o
   at_free plan o had h = record {
     answer = λ fs x d. free_answers (seen w new.store.cells) (number new.page w) d (image fs x w old) (image fs x w new) o (plan d (image fs x w old)) had.left had.left refl (h.leaves fs x d);
     fine = h.fine;
@@ -43,7 +43,7 @@ module _ (w : ℕ) (old new : Parts) where
   }
 
   -- a charge was taken, and the answer is what is left
-  pub at_charged : (n : ℕ) (plan : ℕ → State → Plan) (o : NativeOut) (had has : Fuel) → had.left ≡ n + has.left → has.spent ≡ had.spent + n → EndsAt w old new plan o → MeetsAt w old new had has (λ d s. charge n s (plan d s)) o
+  pub at_charged : (n : ℕ) (plan : ℕ → State → Plan) (o : NativeOut) (had has : Fuel) → had.left ≡ n + has.left → has.spent ≡ had.spent + n → EndsAt w old new plan o → RefinesAt w old new had has (λ d s. charge n s (plan d s)) o
   at_charged n plan o had has left spent h = record {
     answer = λ fs x d. charged_answers (seen w new.store.cells) (number new.page w) d (image fs x w old) (image fs x w new) o n (plan d (image fs x w old)) had.left has.left left (h.leaves fs x d);
     fine = h.fine;
@@ -54,7 +54,7 @@ module _ (w : ℕ) (old new : Parts) where
   }
 
   -- a plan that is the same at the image
-  pub at_same : (p q : ℕ → State → Plan) (o : NativeOut) (had has : Fuel) → ((fs : List Forest) (x : Outside) (d : ℕ) → p d (image fs x w old) ≡ q d (image fs x w old)) → MeetsAt w old new had has q o → MeetsAt w old new had has p o
+  pub at_same : (p q : ℕ → State → Plan) (o : NativeOut) (had has : Fuel) → ((fs : List Forest) (x : Outside) (d : ℕ) → p d (image fs x w old) ≡ q d (image fs x w old)) → RefinesAt w old new had has q o → RefinesAt w old new had has p o
   at_same p q o had has e h = record {
     answer = λ fs x d. subst (λ (y : Plan). Answers (seen w new.store.cells) (number new.page w) d y (image fs x w old) o (image fs x w new) had.left has.left) (sym (e fs x d)) (h.answer fs x d);
     fine = h.fine;
@@ -65,7 +65,7 @@ module _ (w : ℕ) (old new : Parts) where
   }
 
 -- a charge that is not there
-pub at_lacking : (w : ℕ) (h : Parts) (n : ℕ) (plan : ℕ → State → Plan) (had : Fuel) → IsSound w h.store h.page h.around → had.left < n → MeetsAt w h h had had (λ d s. charge n s (plan d s)) native.OutOfFuel
+pub at_lacking : (w : ℕ) (h : Parts) (n : ℕ) (plan : ℕ → State → Plan) (had : Fuel) → IsSound w h.store h.page h.around → had.left < n → RefinesAt w h h had had (λ d s. charge n s (plan d s)) native.OutOfFuel
 at_lacking w h n plan had sound lt = record {
   answer = λ fs x d. lacking_answers (seen w h.store.cells) (number h.page w) d (image fs x w h) (image fs x w h) n (plan d (image fs x w h)) had.left had.left lt refl;
   fine = tt;
@@ -85,8 +85,8 @@ ends_lift w lt s new p l b sound plan o fires e = record {
 }
 
 -- the same with its charges
-pub meets_lift : (w : ℕ) (lt : w < 32) (s new : Cells) (p : Page) (l : Loop) (b : Option Bool) → IsSound w s p l → (had has : Fuel) (plan : ℕ → State → Plan) (o : NativeOut) → FiresAtOwn w (beside new p l b) o → Meets w s new had has plan o → MeetsAt w (beside s p l b) (beside new p l b) had has plan o
-meets_lift w lt s new p l b sound had has plan o fires m = record {
+pub refines_lift : (w : ℕ) (lt : w < 32) (s new : Cells) (p : Page) (l : Loop) (b : Option Bool) → IsSound w s p l → (had has : Fuel) (plan : ℕ → State → Plan) (o : NativeOut) → FiresAtOwn w (beside new p l b) o → Refines w s new had has plan o → RefinesAt w (beside s p l b) (beside new p l b) had has plan o
+refines_lift w lt s new p l b sound had has plan o fires m = record {
   answer = λ fs x d. subst (λ (t : State). Answers (seen w new.cells) (number p w) d (plan d (image fs x w (beside s p l b))) (image fs x w (beside s p l b)) o t had.left has.left) (store_lift w s new p l sound.holds (m.kept []).grows lt fs x b) (m.answer fs (rest w lt x (beside s p l b)) (number p w) d);
   fine = m.fine;
   fires = fires;
@@ -96,32 +96,32 @@ meets_lift w lt s new p l b sound had has plan o fires m = record {
 }
 
 -- a native that reads, by what it does to the store
-pub reads_by : (w : ℕ) (lt : w < 32) (s new : Cells) (p : Page) (l : Loop) → IsSound w s p l → (had has : Fuel) (plan q : ℕ → State → Plan) (o : NativeOut) → ((v : ℕ) (h : Parts) → FiresAtOwn v h o) → ((fs : List Forest) (x : Outside) (b : Option Bool) (d : ℕ) → plan d (image fs x w (beside s p l b)) ≡ q d (image fs x w (beside s p l b))) → Meets w s new had has q o → Reads w s new p l had has plan o
+pub reads_by : (w : ℕ) (lt : w < 32) (s new : Cells) (p : Page) (l : Loop) → IsSound w s p l → (had has : Fuel) (plan q : ℕ → State → Plan) (o : NativeOut) → ((v : ℕ) (h : Parts) → FiresAtOwn v h o) → ((fs : List Forest) (x : Outside) (b : Option Bool) (d : ℕ) → plan d (image fs x w (beside s p l b)) ≡ q d (image fs x w (beside s p l b))) → Refines w s new had has q o → Reads w s new p l had has plan o
 reads_by w lt s new p l sound had has plan q o fires same m = record {
-  meets = λ b. at_same w (beside s p l b) (beside new p l b) plan q o had has (λ fs x d. same fs x b d) (meets_lift w lt s new p l b sound had has q o (fires w (beside new p l b)) m);
+  refines = λ b. at_same w (beside s p l b) (beside new p l b) plan q o had has (λ fs x d. same fs x b d) (refines_lift w lt s new p l b sound had has q o (fires w (beside new p l b)) m);
 }
 
 -- an answer before any charge
 pub reads_free : (w : ℕ) (s : Cells) (p : Page) (l : Loop) → IsSound w s p l → (had : Fuel) (plan : ℕ → State → Plan) (o : NativeOut) → IsFineOut w s.cells o → ((v : ℕ) (h : Parts) → FiresAtOwn v h o) → ((fs : List Forest) (x : Outside) (b : Option Bool) (d : ℕ) → Leaves (seen w s.cells) (number p w) d o (image fs x w (beside s p l b)) (plan d (image fs x w (beside s p l b)))) → Reads w s s p l had had plan o
 reads_free w s p l sound had plan o fine fires leaves = record {
-  meets = λ b. at_free w (beside s p l b) (beside s p l b) plan o had (record { leaves = λ fs x d. leaves fs x b d; fine = fine; fires = fires w (beside s p l b); sound = sound });
+  refines = λ b. at_free w (beside s p l b) (beside s p l b) plan o had (record { leaves = λ fs x d. leaves fs x b d; fine = fine; fires = fires w (beside s p l b); sound = sound });
 }
 
 -- a charge was taken, and the answer is what is left
 pub reads_charged : (w : ℕ) (s new : Cells) (p : Page) (l : Loop) (n : ℕ) (plan q : ℕ → State → Plan) (o : NativeOut) (had has : Fuel) → had.left ≡ n + has.left → has.spent ≡ had.spent + n → ((fs : List Forest) (x : Outside) (b : Option Bool) (d : ℕ) → plan d (image fs x w (beside s p l b)) ≡ charge n (image fs x w (beside s p l b)) (q d (image fs x w (beside s p l b)))) → ((b : Option Bool) → EndsAt w (beside s p l b) (beside new p l b) q o) → Reads w s new p l had has plan o
 reads_charged w s new p l n plan q o had has left spent same h = record {
-  meets = λ b. at_same w (beside s p l b) (beside new p l b) plan (λ d t. charge n t (q d t)) o had has (λ fs x d. same fs x b d) (at_charged w (beside s p l b) (beside new p l b) n q o had has left spent (h b));
+  refines = λ b. at_same w (beside s p l b) (beside new p l b) plan (λ d t. charge n t (q d t)) o had has (λ fs x d. same fs x b d) (at_charged w (beside s p l b) (beside new p l b) n q o had has left spent (h b));
 }
 
 -- a charge that is not there
 pub reads_lacking : (w : ℕ) (s : Cells) (p : Page) (l : Loop) → IsSound w s p l → (n : ℕ) (plan q : ℕ → State → Plan) (had has : Fuel) → has ≡ had → had.left < n → ((fs : List Forest) (x : Outside) (b : Option Bool) (d : ℕ) → plan d (image fs x w (beside s p l b)) ≡ charge n (image fs x w (beside s p l b)) (q d (image fs x w (beside s p l b)))) → Reads w s s p l had has plan native.OutOfFuel
 reads_lacking w s p l sound n plan q had has e lt same = record {
-  meets = λ b. subst (λ (f : Fuel). MeetsAt w (beside s p l b) (beside s p l b) had f plan native.OutOfFuel) (sym e)
+  refines = λ b. subst (λ (f : Fuel). RefinesAt w (beside s p l b) (beside s p l b) had f plan native.OutOfFuel) (sym e)
       (at_same w (beside s p l b) (beside s p l b) plan (λ d t. charge n t (q d t)) native.OutOfFuel had had (λ fs x d. same fs x b d) (at_lacking w (beside s p l b) n q had sound lt));
 }
 
 -- a plan that is the same at the image
 pub reads_same : (w : ℕ) (s new : Cells) (p : Page) (l : Loop) (had has : Fuel) (plan q : ℕ → State → Plan) (o : NativeOut) → ((fs : List Forest) (x : Outside) (b : Option Bool) (d : ℕ) → plan d (image fs x w (beside s p l b)) ≡ q d (image fs x w (beside s p l b))) → Reads w s new p l had has q o → Reads w s new p l had has plan o
 reads_same w s new p l had has plan q o same h = record {
-  meets = λ b. at_same w (beside s p l b) (beside new p l b) plan q o had has (λ fs x d. same fs x b d) (h.meets b);
+  refines = λ b. at_same w (beside s p l b) (beside new p l b) plan q o had has (λ fs x d. same fs x b d) (h.refines b);
 }

@@ -25,17 +25,17 @@ use Rattle.page_tree.specs.declared.page.Page.{Page}
 use Rattle.page_image.specs.Image.{number}
 use Rattle.event_loop.specs.declared.around.Loop.{Loop}
 use Rattle.event_image.specs.Image.{Shows}
-use Rattle.native_common.specs.Meets.{Meets}
+use Rattle.native_common.specs.Refines.{Refines}
 use Rattle.native_common.specs.Numbers.{counted}
 use Rattle.native_image.specs.Charges.{Begins, Price, pay_for}
 use Rattle.native_image.specs.Image.{Outside, Parts, beside, dispatches_of, image}
-use Rattle.native_image.specs.Meets.{EndsAt, FiresAtOwn, MeetsAt}
+use Rattle.native_image.specs.Refines.{EndsAt, FiresAtOwn, RefinesAt}
 use Rattle.native_image.specs.Sound.{IsSound}
 use Rattle.native_image.proofs.Joint.{rest, shown_is, store_lift}
-use Rattle.native_image.proofs.Meeting.{at_charged, at_free, at_same, meets_lift}
+use Rattle.native_image.proofs.Meeting.{at_charged, at_free, at_same, refines_lift}
 
 -- what is left after charge and cost ends the plan
-pub at_begun : (w : ℕ) (lt : w < 32) (s t : Cells) (p : Page) (l : Loop) (b : Option Bool) → IsSound w s p l → (had has : Fuel) (n : ℕ) (c : Price) → Begins w s t had has n c → (new : Parts) (k : ℕ → State → Plan) (o : NativeOut) → EndsAt w (beside t p l b) new k o → MeetsAt w (beside s p l b) new had has (λ d u. charge n u (pay_for c u (k d))) o
+pub at_begun : (w : ℕ) (lt : w < 32) (s t : Cells) (p : Page) (l : Loop) (b : Option Bool) → IsSound w s p l → (had has : Fuel) (n : ℕ) (c : Price) → Begins w s t had has n c → (new : Parts) (k : ℕ → State → Plan) (o : NativeOut) → EndsAt w (beside t p l b) new k o → RefinesAt w (beside s p l b) new had has (λ d u. charge n u (pay_for c u (k d))) o
 at_begun w lt s t p l b sound had has n c begun new k o ends =
     at_charged w (beside s p l b) new n (λ d u. pay_for c u (k d)) o had has begun.left begun.spent
     (record {
@@ -58,25 +58,25 @@ gives_back w s this held mid new g still sound f done = record {
 }
 
 -- a fault before any charge
-pub at_thrown : (w : ℕ) (h : Parts) (plan : ℕ → State → Plan) (f : Fault) (had : Fuel) → IsSound w h.store h.page h.around → ((fs : List Forest) (x : Outside) (d : ℕ) → plan d (image fs x w h) ≡ throw (meant_fault f) (image fs x w h)) → MeetsAt w h h had had plan (native.Throw f)
+pub at_thrown : (w : ℕ) (h : Parts) (plan : ℕ → State → Plan) (f : Fault) (had : Fuel) → IsSound w h.store h.page h.around → ((fs : List Forest) (x : Outside) (d : ℕ) → plan d (image fs x w h) ≡ throw (meant_fault f) (image fs x w h)) → RefinesAt w h h had had plan (native.Throw f)
 at_thrown w h plan f had sound same = at_free w h h plan (native.Throw f) had (record { leaves = same; fine = tt; fires = tt; sound = sound })
 
 module _ (w : ℕ) (lt : w < 32) (s t : Cells) (p : Page) (l : Loop) (b : Option Bool) (sound : IsSound w s p l) (had has : Fuel) (n : ℕ) (c : Price) (plan k : ℕ → State → Plan) (same : (fs : List Forest) (x : Outside) (d : ℕ) → plan d (image fs x w (beside s p l b)) ≡ charge n (image fs x w (beside s p l b)) (pay_for c (image fs x w (beside s p l b)) (k d))) where
   -- charge or cost are wanting
-  pub at_refused : (o : NativeOut) → ((v : ℕ) (h : Parts) → FiresAtOwn v h o) → Meets w s t had has (λ d u. charge n u (pay_for c u (k d))) o → MeetsAt w (beside s p l b) (beside t p l b) had has plan o
+  pub at_refused : (o : NativeOut) → ((v : ℕ) (h : Parts) → FiresAtOwn v h o) → Refines w s t had has (λ d u. charge n u (pay_for c u (k d))) o → RefinesAt w (beside s p l b) (beside t p l b) had has plan o
   at_refused o fires m =
       at_same w (beside s p l b) (beside t p l b) plan (λ d u. charge n u (pay_for c u (k d))) o had has same
-      (meets_lift w lt s t p l b sound had has (λ d u. charge n u (pay_for c u (k d))) o (fires w (beside t p l b)) m)
+      (refines_lift w lt s t p l b sound had has (λ d u. charge n u (pay_for c u (k d))) o (fires w (beside t p l b)) m)
 
   -- they were taken, and what is left was done
-  pub at_ended : Begins w s t had has n c → (new : Parts) (o : NativeOut) → EndsAt w (beside t p l b) new k o → MeetsAt w (beside s p l b) new had has plan o
+  pub at_ended : Begins w s t had has n c → (new : Parts) (o : NativeOut) → EndsAt w (beside t p l b) new k o → RefinesAt w (beside s p l b) new had has plan o
   at_ended begun new o ends =
       at_same w (beside s p l b) new plan (λ d u. charge n u (pay_for c u (k d))) o had has same
       (at_begun w lt s t p l b sound had has n c begun new k o ends)
 
 -- a plan that is the same at the image, of an answer that may be want of memory
-pub ok_at_same : (w : ℕ) (old new : Parts) (p q : ℕ → State → Plan) (r : Result NativeOut Memory) (had has : Fuel) → ((fs : List Forest) (x : Outside) (d : ℕ) → p d (image fs x w old) ≡ q d (image fs x w old)) → IfOk r (MeetsAt w old new had has q) → IfOk r (MeetsAt w old new had has p)
-ok_at_same w old new p q r had has same h = IfOk-weaker r (MeetsAt w old new had has q) (MeetsAt w old new had has p) (λ o x. at_same w old new p q o had has same x) h
+pub ok_at_same : (w : ℕ) (old new : Parts) (p q : ℕ → State → Plan) (r : Result NativeOut Memory) (had has : Fuel) → ((fs : List Forest) (x : Outside) (d : ℕ) → p d (image fs x w old) ≡ q d (image fs x w old)) → IfOk r (RefinesAt w old new had has q) → IfOk r (RefinesAt w old new had has p)
+ok_at_same w old new p q r had has same h = IfOk-weaker r (RefinesAt w old new had has q) (RefinesAt w old new had has p) (λ o x. at_same w old new p q o had has same x) h
 
 -- a node each, and few nodes: what is counted is how many there are
 pub few_counted : (f : ℕ → ℕ) (list : List ℕ) → length list ≤ 16384 → length list ≡ counted (length (map f list))

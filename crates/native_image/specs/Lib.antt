@@ -1,6 +1,6 @@
 pub mod Image
 pub mod Sound
-pub mod Meets
+pub mod Refines
 pub mod Charges
 pub mod Weights
 pub mod Made

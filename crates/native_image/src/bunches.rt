@@ -17,7 +17,7 @@ ghost use Rattle.page_image.specs.Image.{number, owns};
 ghost use Rattle.native_common.specs.Receivers.{IsReceiver, receiver};
 ghost use Rattle.native_image.specs.Image.{Outside, beside, image};
 ghost use Rattle.native_image.specs.Made.{AreBunches};
-ghost use Rattle.native_image.specs.Meets.{EndsAt};
+ghost use Rattle.native_image.specs.Refines.{EndsAt};
 ghost use Rattle.native_image.specs.Sound.{AreNodes, HoldsOwn, IsSound, KeepsStore};
 
 use code_units::{Memory, Owner};

@@ -6,11 +6,11 @@ ghost use Rattle.widget_meaning.specs.Plan.{Plan, charge};
 ghost use Rattle.js_image.specs.Held.{Kept};
 ghost use Rattle.js_image.specs.Image.{Rest, image};
 ghost use Rattle.js_image.specs.Plans.{paid_plan};
-ghost use Rattle.native_common.specs.Meets.{Meets};
+ghost use Rattle.native_common.specs.Refines.{Refines};
 ghost use Rattle.native_common.specs.Numbers.{counted};
 ghost use Rattle.native_image.specs.Charges.{Begins, IsPrice, OfUnits, Price, pay_for};
 ghost use Rattle.native_image.specs.Image.{Parts};
-ghost use Rattle.native_image.specs.Meets.{FiresAtOwn};
+ghost use Rattle.native_image.specs.Refines.{FiresAtOwn};
 
 use js_image::{Paid, StopCause, pay_slots, pay_units};
 use js_values::{Meter, NativeOut};
@@ -38,7 +38,7 @@ pub fn begin(
     ensures begun { OnOk result ((n : ℕ) (c : Price) → extra ≡ counted n → IsPrice cost c
         → Begins w store.old store.new meter.old meter.new n c) }
     ensures refused { IfErr result (λ o. (n : ℕ) (c : Price) (k : ℕ → State → Plan) → extra ≡ counted n → IsPrice cost c
-        → Meets w store.old store.new meter.old meter.new (λ d s. charge n s (pay_for c s (k d))) o) }
+        → Refines w store.old store.new meter.old meter.new (λ d s. charge n s (pay_for c s (k d))) o) }
     ensures fires { IfErr result (λ o. (v : ℕ) (h : Parts) → FiresAtOwn v h o) }
     ensures kept { (fs : List Forest) → Kept fs w store.old store.new }
 {

@@ -7,10 +7,10 @@ ghost use Rattle.widget_meaning.specs.Costs.{give};
 ghost use Rattle.widget_meaning.specs.Plan.{charge};
 ghost use Rattle.widget_meaning.specs.Values.{Text as Meant};
 ghost use Rattle.js_values.specs.Operands.{IsPrimitive, plain};
-ghost use Rattle.native_common.specs.Meets.{Ends, Meets};
+ghost use Rattle.native_common.specs.Refines.{Ends, Refines};
 ghost use Rattle.native_common.specs.Numbers.{counted};
 ghost use Rattle.native_image.specs.Image.{Parts};
-ghost use Rattle.native_image.specs.Meets.{FiresAtOwn};
+ghost use Rattle.native_image.specs.Refines.{FiresAtOwn};
 
 use code_units::Text;
 use js_image::{Paid, pay_text};
@@ -28,7 +28,7 @@ pub fn give_page_text(
 ) -> NativeOut
     requires { w < 32 }
     ensures native { (n : ℕ) → extra ≡ counted n
-        → Meets w store.old store.new meter.old meter.new (λ d s. means.give_page_text n text s) result }
+        → Refines w store.old store.new meter.old meter.new (λ d s. means.give_page_text n text s) result }
     ensures fires { (v : ℕ) (h : Parts) → FiresAtOwn v h result }
 {
     match take(meter, extra) {
@@ -53,7 +53,7 @@ pub fn make_text(store: &mut Store, w: u32, text: Text) -> NativeOut
 pub fn give_plain(meter: &mut Meter, extra: usize, value: Value) -> NativeOut
     requires primitive { IsPrimitive value }
     ensures native { (w : ℕ) (s : Cells) (n : ℕ) → extra ≡ counted n
-        → Meets w s s meter.old meter.new (λ d t. charge n t (give (plain value) t)) result }
+        → Refines w s s meter.old meter.new (λ d t. charge n t (give (plain value) t)) result }
     ensures fires { (v : ℕ) (h : Parts) → FiresAtOwn v h result }
 {
     match take(meter, extra) {

@@ -1,7 +1,7 @@
 //! What a widget has in the store, on the page and in its loop, read off together: the state that its meaning speaks of
 //! (`specs/Image.antt`), what holds of the three and is kept (`specs/Sound.antt`), and when a native of the
 //! page carries
-//! out its plan there (`specs/Meets.antt`).
+//! out its plan there (`specs/Refines.antt`).
 #![tactic(auto)]
 
 mod bunches;

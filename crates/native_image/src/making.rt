@@ -11,7 +11,7 @@ ghost use Rattle.js_image.specs.Held.{Kept};
 ghost use Rattle.native_common.specs.Numbers.{counted};
 ghost use Rattle.native_image.specs.Image.{Outside, beside, image};
 ghost use Rattle.native_image.specs.Made.{IsNode};
-ghost use Rattle.native_image.specs.Meets.{EndsAt};
+ghost use Rattle.native_image.specs.Refines.{EndsAt};
 ghost use Rattle.native_image.specs.Sound.{HoldsOwn, IsSound, KeepsAll};
 
 use crate::bunches::bunch_of_node;

@@ -29,7 +29,7 @@ use Rattle.js_image.specs.Image.{seen}
 use Rattle.js_values.specs.Answers.{Answers}
 use Rattle.js_values.specs.Fuel.{Fuel}
 use Rattle.js_values.specs.declared.outcome.NativeOut.{NativeOut}
-use Rattle.adsafe_object.specs.Ends.{MeetsNoted}
+use Rattle.adsafe_object.specs.Ends.{RefinesNoted}
 use Rattle.adsafe_object.specs.Notes.{Notes, noted}
 use Rattle.adsafe_object.specs.Timers.{AsksOwn}
 use Rattle.native_image.specs.Image.{Outside, beside, dispatches_of, image}
@@ -38,7 +38,7 @@ use Rattle.native_image.proofs.Joint.{keeps_of, rest, sound_stays, store_lift}
 use Rattle.native_image.proofs.Keeping.{page_same, host_here}
 use Rattle.native_image.proofs.Meeting.{no_outside}
 use Rattle.natives.specs.Asked.{asked_timers}
-use Rattle.natives.specs.Meets.{MeetsWhole}
+use Rattle.natives.specs.Refines.{RefinesWhole}
 use Rattle.natives.specs.Reach.{reach, state, with_notes}
 use Rattle.natives.proofs.Unheard.{noted_nowhere}
 
@@ -124,8 +124,8 @@ module _ (w : ℕ) (lt : w < 32) (s t : Cells) (p : Page) (old new : Loop) (same
   pub noted_whole : (b : Option Bool) (waiting : ℕ) (log kept : List (List ℕ)) (posts sent : List (List ℕ × List ℕ)) (had has : Fuel) (plan : ℕ → State → Plan) (o : NativeOut)
       → ((fs : List Forest) × IsConfined fs w s) → waiting ≡ length (around.timers old)
       → around.timers new ≡ around.timers old ++ asked_timers (around.clock old) asked → (asked ≡ None → new ≡ old)
-      → MeetsNoted w waiting s t had has (record { log = log; posts = posts; asked = None }) (record { log = kept; posts = sent; asked = asked }) plan o
-      → MeetsWhole w (reach s p old b log posts) (reach t p new b kept sent) had has plan o
+      → RefinesNoted w waiting s t had has (record { log = log; posts = posts; asked = None }) (record { log = kept; posts = sent; asked = asked }) plan o
+      → RefinesWhole w (reach s p old b log posts) (reach t p new b kept sent) had has plan o
   noted_whole b waiting log kept posts sent had has plan o confined many done unasked m = record {
     answer = λ fs x d safe.
         subst (λ (u : State). Answers (seen w t.cells) (number p w) d (plan d (state fs x w (reach s p old b log posts))) (state fs x w (reach s p old b log posts)) o u had.left has.left)
@@ -144,7 +144,7 @@ module _ (w : ℕ) (lt : w < 32) (s t : Cells) (p : Page) (old new : Loop) (same
   }
 
 -- what is kept of the store, whatever is answered
-pub noted_kept : (w waiting : ℕ) (s t : Cells) (had has : Fuel) (before after : Notes) (plan : ℕ → State → Plan) (r : Result NativeOut Memory) → IfOk r (MeetsNoted w waiting s t had has before after plan) → OnErr r ((fs : List Forest) → Kept fs w s t)
+pub noted_kept : (w waiting : ℕ) (s t : Cells) (had has : Fuel) (before after : Notes) (plan : ℕ → State → Plan) (r : Result NativeOut Memory) → IfOk r (RefinesNoted w waiting s t had has before after plan) → OnErr r ((fs : List Forest) → Kept fs w s t)
     → (fs : List Forest) → Kept fs w s t
 noted_kept w waiting s t had has before after plan (Ok o) m e = m.kept
 noted_kept w waiting s t had has before after plan (Err x) m e = e

@@ -13,12 +13,12 @@ use Rattle.js_values.specs.Fuel.{Fuel}
 use Rattle.js_values.specs.declared.outcome.NativeOut.{NativeOut}
 use Rattle.js_values.specs.declared.outcome.NativeOut.TheVariants as native
 use Rattle.js_values.specs.declared.outcome.Plan.TheVariants as calls
-use Rattle.native_common.specs.Meets.{Meets}
-use Rattle.adsafe_object.specs.Ends.{MeetsNoted}
+use Rattle.native_common.specs.Refines.{Refines}
+use Rattle.adsafe_object.specs.Ends.{RefinesNoted}
 use Rattle.adsafe_object.specs.Notes.{Notes, noted}
 use Rattle.store_natives.proofs.Unheard.{IsGivenAnyhow, at_none, it_listens, listener, no_true}
 use Rattle.native_image.specs.Image.{Parts}
-use Rattle.native_image.specs.Meets.{FiresAtOwn}
+use Rattle.native_image.specs.Refines.{FiresAtOwn}
 
 -- it asks for handlers at no node
 given_nowhere : (see : StoreValue → Value) (v : ℕ) (h : Parts) (o : NativeOut) → ((kind : List ℕ) → IsGivenAnyhow see o kind) → FiresAtOwn v h o
@@ -34,8 +34,8 @@ given_nowhere see v h (native.Call (calls.Fire kind nodes last)) f = λ n is.
 
 module _ (w : ℕ) (s t : Cells) (r : Rest) (had has : Fuel) (plan : ℕ → State → Plan) (o : NativeOut) (v : ℕ) (h : Parts) where
   -- what a room answers that knows the store alone
-  pub meets_nowhere : Meets w s t had has plan o → FiresAtOwn v h o
-  meets_nowhere m = given_nowhere (seen w t.cells) v h o (λ kind. record {
+  pub refines_nowhere : Refines w s t had has plan o → FiresAtOwn v h o
+  refines_nowhere m = given_nowhere (seen w t.cells) v h o (λ kind. record {
     depth = 0;
     plan = plan 0 (image [] (listener kind r) w s);
     from = image [] (listener kind r) w s;
@@ -49,7 +49,7 @@ module _ (w : ℕ) (s t : Cells) (r : Rest) (had has : Fuel) (plan : ℕ → Sta
   })
 
   -- and what the room of `ADSAFE` answers
-  pub noted_nowhere : (waiting : ℕ) (old new : Notes) (fs : List Forest) → IsConfined fs w s → length r.state.own.timers ≡ waiting → MeetsNoted w waiting s t had has old new plan o → FiresAtOwn v h o
+  pub noted_nowhere : (waiting : ℕ) (old new : Notes) (fs : List Forest) → IsConfined fs w s → length r.state.own.timers ≡ waiting → RefinesNoted w waiting s t had has old new plan o → FiresAtOwn v h o
   noted_nowhere waiting old new fs confined many m = given_nowhere (seen w t.cells) v h o (λ kind. record {
     depth = 0;
     plan = plan 0 (image fs (noted w s.cells old (listener kind r)) w s);

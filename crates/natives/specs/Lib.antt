@@ -1,4 +1,4 @@
 pub mod Rooms
 pub mod Reach
-pub mod Meets
+pub mod Refines
 pub mod Asked

@@ -9,7 +9,7 @@ ghost use Rattle.native_common.specs.Receivers.{IsReceiver, receiver};
 ghost use Rattle.native_image.specs.Sound.{IsSound, KeepsAll};
 ghost use Rattle.page_tree.specs.declared.page.Page.{Page as PageTree};
 ghost use Rattle.adsafe_object.specs.Part as adsafe;
-ghost use Rattle.natives.specs.Meets.{MeetsWhole, plan_of};
+ghost use Rattle.natives.specs.Refines.{RefinesWhole, plan_of};
 ghost use Rattle.natives.specs.Reach.{reach};
 
 use crate::rooms::{Room, room_of};
@@ -45,7 +45,7 @@ pub fn call(
     requires confined { (fs : List Forest) × IsConfined fs w store.old }
     requires sound { IsSound w store.old page.old around.old }
     requires fine { FineNative w store.old.cells native.now }
-    ensures native { IfOk result (λ o. MeetsWhole w
+    ensures native { IfOk result (λ o. RefinesWhole w
         (reach store.old page.old around.old bubbled.old log.old.items posts.old.items)
         (reach store.new page.new around.new bubbled.new log.new.items posts.new.items)
         meter.old meter.new (plan_of w store.old.cells native.now) o) }
@@ -77,7 +77,7 @@ fn call_on(
     requires sound { IsSound w store.old page.old around.old }
     requires receiver { IsReceiver w store.old.cells this.now }
     requires args { AreFine w store.old.cells native.now.args.items }
-    ensures native { IfOk result (λ o. MeetsWhole w
+    ensures native { IfOk result (λ o. RefinesWhole w
         (reach store.old page.old around.old bubbled.old log.old.items posts.old.items)
         (reach store.new page.new around.new bubbled.new log.new.items posts.new.items)
         meter.old meter.new (run_native native.now.which (receiver w store.old.cells this.now)
@@ -121,7 +121,7 @@ fn adsafe_native(
     requires receiver { IsReceiver w store.old.cells this.now }
     requires args { AreFine w store.old.cells args.now }
     ensures native { IfOk result (λ o. (p : PageTree) (b : Option Bool) → IsSound w store.old p around.old
-        → MeetsWhole w
+        → RefinesWhole w
         (reach store.old p around.old b log.old.items posts.old.items)
         (reach store.new p around.new b log.new.items posts.new.items)
         meter.old meter.new (run_native which (receiver w store.old.cells this.now)

@@ -98,7 +98,8 @@ fn add_fun(names: &mut Vec<Text>, tree: &Tree, id: FunId) -> Result<(), Memory>
 /// Adds the names that the statements declare.
 fn hoist(alloc: Global, tree: &Tree, body: &[StmtId], names: &mut Vec<Text>) -> Result<(), Memory>
     requires { All (IsStmt (trees tree.now)) body.now }
-    ensures { OnOk result ((q : List ℕ) → In q names.new.items ↔ (In q names.old.items ⊎ AnyDeclares (trees tree.now) body.now q)) }
+    ensures { OnOk result ((q : List ℕ)
+        → In q names.new.items ↔ (In q names.old.items ⊎ AnyDeclares (trees tree.now) body.now q)) }
 {
     let mut left: Vec<StmtId> = Vec::new(alloc);
     left.extend_from_slice(body)?;

@@ -46,7 +46,8 @@ impl Enclosing {
     /// Whether an open node binds the name.
     pub fn binds(&self, name: &Text) -> bool
         requires { IsCounted self.now }
-        ensures { (f : Forest) → AreKnown f self.now.stack.items → IsTrue result ↔ IsBound (env_of f self.now.stack.items) name.now }
+        ensures { (f : Forest) → AreKnown f self.now.stack.items
+            → IsTrue result ↔ IsBound (env_of f self.now.stack.items) name.now }
     {
         self.is_counted(name)
     }
@@ -80,7 +81,8 @@ impl Enclosing {
     #[tactic(auto, using(crate::proofs::Open::occurs_more))]
     pub fn enter(&mut self, opener: Part, names: Vec<Text>, jumps: Jumps) -> Result<(), Memory>
         requires { IsCounted self.old }
-        ensures opened { OnOk result (self.new.stack.items ≡ self.old.stack.items ++ record { opener = opener; names = names; jumps = jumps } ∷ []) }
+        ensures opened { OnOk result (self.new.stack.items
+            ≡ self.old.stack.items ++ record { opener = opener; names = names; jumps = jumps } ∷ []) }
         ensures counted { OnOk result (IsCounted self.new) }
     {
         count_more(&mut self.counts, &names)?;
@@ -118,7 +120,8 @@ impl Enclosing {
 
 // Counts each name once more.
 fn count_more(counts: &mut BTreeMap<Text, usize>, names: &[Text]) -> Result<(), Memory>
-    ensures { OnOk result ((q : List ℕ) → count_of counts.new q ≡ count_of counts.old q + count_by (bytes_eq q) names.now) }
+    ensures { OnOk result ((q : List ℕ)
+        → count_of counts.new q ≡ count_of counts.old q + count_by (bytes_eq q) names.now) }
 {
     'more: for name in names {
         count(counts, name)?;

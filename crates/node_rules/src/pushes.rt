@@ -152,7 +152,8 @@ pub fn push_expr_parts(
     depth: usize,
 ) -> Result<(), Memory>
     requires { AreExprParts (trees tree.now) node.now }
-    ensures { OnOk result (work.new.items ≡ work.old.items ++ map (at_depth depth) (expr_work (trees tree.now) node.now)) }
+    ensures { OnOk result (work.new.items
+        ≡ work.old.items ++ map (at_depth depth) (expr_work (trees tree.now) node.now)) }
 {
     match node {
         Expr::Array(ids) => push_exprs(work, ids, depth),
@@ -261,7 +262,8 @@ pub fn push_fun_parts(
     depth: usize,
 ) -> Result<(), Memory>
     requires { AreFunParts (trees tree.now) node.now }
-    ensures { OnOk result (work.new.items ≡ work.old.items ++ map (at_depth depth) (fun_work (trees tree.now) node.now)) }
+    ensures { OnOk result (work.new.items
+        ≡ work.old.items ++ map (at_depth depth) (fun_work (trees tree.now) node.now)) }
 {
     push_funs(work, &node.funs, depth)?;
     push_stmts(work, body_work(tree, &node.body), depth)

@@ -25,7 +25,8 @@ use js_tree::{Decl, Expr, ExprId, ForInit, Stmt, Tree, UnOp};
 // A06 of a name that is used.
 fn unbound(name: &Text, at: usize, enclosing: &Enclosing, best: Option<Breach>) -> Option<Breach>
     requires { IsCounted enclosing.now }
-    ensures { (f : Forest) → AreKnown f enclosing.now.stack.items → Narrows (Unbound (env_of f enclosing.now.stack.items) (named name.now at)) best Nothing result }
+    ensures { (f : Forest) → AreKnown f enclosing.now.stack.items
+        → Narrows (Unbound (env_of f enclosing.now.stack.items) (named name.now at)) best Nothing result }
 {
     if enclosing.binds(name) {
         return best;
@@ -39,7 +40,8 @@ fn unbound(name: &Text, at: usize, enclosing: &Enclosing, best: Option<Breach>) 
 /// A name that is used: A03, A05 and A06.
 fn used(name: &Text, at: usize, enclosing: &Enclosing, best: Option<Breach>) -> Option<Breach>
     requires { IsCounted enclosing.now }
-    ensures { (f : Forest) → AreKnown f enclosing.now.stack.items → Narrows (UseRow (env_of f enclosing.now.stack.items) (named name.now at)) best Nothing result }
+    ensures { (f : Forest) → AreKnown f enclosing.now.stack.items
+        → Narrows (UseRow (env_of f enclosing.now.stack.items) (named name.now at)) best Nothing result }
 {
     let best = offer(best, has_edge_underscore(name), A03, at);
     let best = offer(best, is_reaching(name), A05, at);
@@ -142,7 +144,9 @@ pub fn used_name(
     best: Option<Breach>,
 ) -> Option<Breach>
     requires { IsCounted enclosing.now }
-    ensures { (f : Forest) (names : List ℕ) → AreKnown f enclosing.now.stack.items → Narrows (Each (UseRow (env_of f enclosing.now.stack.items)) (uses (AnExpr (ExprAt at names (plain_form f node.now))))) best Nothing result }
+    ensures { (f : Forest) (names : List ℕ) → AreKnown f enclosing.now.stack.items
+        → Narrows (Each (UseRow (env_of f enclosing.now.stack.items))
+        (uses (AnExpr (ExprAt at names (plain_form f node.now))))) best Nothing result }
 {
     match node {
         Expr::Name(name) => used(name, at, enclosing, best),
@@ -167,7 +171,9 @@ pub fn random_rule(
     best: Option<Breach>,
 ) -> Option<Breach>
     requires { AreExprParts (trees tree.now) node.now }
-    ensures { Narrows (If (is_of_math (plain_form (trees tree.now) node.now)) (Each RandomRow (properties (AnExpr (ExprAt at places.now (plain_form (trees tree.now) node.now)))))) best Nothing result }
+    ensures { Narrows (If (is_of_math (plain_form (trees tree.now) node.now))
+        (Each RandomRow (properties
+        (AnExpr (ExprAt at places.now (plain_form (trees tree.now) node.now)))))) best Nothing result }
 {
     match node {
         Expr::Dot(e, name) => {
@@ -203,7 +209,9 @@ fn random_literal(tree: &Tree, id: ExprId, best: Option<Breach>) -> Option<Breac
 #[tactic(auto, using(first_breach::proofs::Narrowing::each_none, first_breach::proofs::Narrowing::each_one))]
 pub fn target_rule(tree: &Tree, node: &Expr, best: Option<Breach>) -> Option<Breach>
     requires { AreExprParts (trees tree.now) node.now }
-    ensures { (at : ℕ) (names : List ℕ) → Narrows (Each TargetRow (targets (AnExpr (ExprAt at names (plain_form (trees tree.now) node.now))))) best Nothing result }
+    ensures { (at : ℕ) (names : List ℕ)
+        → Narrows (Each TargetRow
+        (targets (AnExpr (ExprAt at names (plain_form (trees tree.now) node.now))))) best Nothing result }
 {
     match node {
         Expr::Assign(_, a, _) => written_variable(tree, *a, best),
@@ -258,7 +266,8 @@ pub fn wrong_target_rule(tree: &Tree, node: &Expr, best: Option<Breach>) -> Opti
 #[tactic(auto, using(first_breach::proofs::Narrowing::each_none, first_breach::proofs::Narrowing::each_one))]
 fn assigned(tree: &Tree, id: ExprId, best: Option<Breach>) -> Option<Breach>
     requires { IsExpr (trees tree.now) id }
-    ensures { let a = expr_at (trees tree.now) id in Narrows (Each (One A19) (if is_target a then [] else expr_place a ∷ [])) best Nothing result }
+    ensures { let a = expr_at (trees tree.now) id in Narrows
+        (Each (One A19) (if is_target a then [] else expr_place a ∷ [])) best Nothing result }
 {
     if is_target(tree, id) {
         best
@@ -270,7 +279,8 @@ fn assigned(tree: &Tree, id: ExprId, best: Option<Breach>) -> Option<Breach>
 #[tactic(auto, using(first_breach::proofs::Narrowing::each_none, first_breach::proofs::Narrowing::each_one))]
 fn deleted(tree: &Tree, id: ExprId, best: Option<Breach>) -> Option<Breach>
     requires { IsExpr (trees tree.now) id }
-    ensures { let a = expr_at (trees tree.now) id in Narrows (Each (One A19) (if is_property a then [] else expr_place a ∷ [])) best Nothing result }
+    ensures { let a = expr_at (trees tree.now) id in Narrows
+        (Each (One A19) (if is_property a then [] else expr_place a ∷ [])) best Nothing result }
 {
     if is_property(tree, id) {
         best
@@ -289,7 +299,9 @@ pub fn used_variable(
     best: Option<Breach>,
 ) -> Option<Breach>
     requires { IsCounted enclosing.now }
-    ensures { (f : Forest) → AreKnown f enclosing.now.stack.items → Narrows (Each (UseRow (env_of f enclosing.now.stack.items)) (uses (AStmt (StmtAt at places.now (plain_stmt_form f node.now))))) best Nothing result }
+    ensures { (f : Forest) → AreKnown f enclosing.now.stack.items
+        → Narrows (Each (UseRow (env_of f enclosing.now.stack.items))
+        (uses (AStmt (StmtAt at places.now (plain_stmt_form f node.now))))) best Nothing result }
 {
     match node {
         Stmt::ForIn(declared, name, _, _) => {
@@ -322,7 +334,8 @@ pub fn bound_variables(
     places: &[usize],
     best: Option<Breach>,
 ) -> Option<Breach>
-    ensures { (f : Forest) → Narrows (Each BinderRow (binders (AStmt (StmtAt at places.now (plain_stmt_form f node.now))))) best Nothing result }
+    ensures { (f : Forest) → Narrows
+        (Each BinderRow (binders (AStmt (StmtAt at places.now (plain_stmt_form f node.now))))) best Nothing result }
 {
     match node {
         Stmt::Var(decls) => bound_decls(decls, best),
@@ -347,7 +360,8 @@ pub fn written_loop_variable(
     places: &[usize],
     best: Option<Breach>,
 ) -> Option<Breach>
-    ensures { (f : Forest) → Narrows (Each TargetRow (targets (AStmt (StmtAt at places.now (plain_stmt_form f node.now))))) best Nothing result }
+    ensures { (f : Forest) → Narrows
+        (Each TargetRow (targets (AStmt (StmtAt at places.now (plain_stmt_form f node.now))))) best Nothing result }
 {
     match node {
         Stmt::ForIn(declared, name, _, _) => {

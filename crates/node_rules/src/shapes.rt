@@ -13,7 +13,8 @@ use js_tree::{BinOp, Expr, ExprId, Stmt, Tree, UnOp};
 /// A string literal.
 pub fn literal(tree: &Tree, id: ExprId) -> Option<&Text>
     requires { IsExpr (trees tree.now) id }
-    ensures { let e = expr_at (trees tree.now) id in MatchOption result (literal e ≡ []) (λ t. literal e ≡ named t.now (expr_place e) ∷ []) }
+    ensures { let e = expr_at (trees tree.now) id in MatchOption result (literal e ≡ [])
+        (λ t. literal e ≡ named t.now (expr_place e) ∷ []) }
 {
     match tree.expr(id) {
         Expr::Str(text) => Some(text),
@@ -24,7 +25,8 @@ pub fn literal(tree: &Tree, id: ExprId) -> Option<&Text>
 /// A name as an expression.
 pub fn variable(tree: &Tree, id: ExprId) -> Option<&Text>
     requires { IsExpr (trees tree.now) id }
-    ensures { let e = expr_at (trees tree.now) id in MatchOption result (variable e ≡ []) (λ t. variable e ≡ named t.now (expr_place e) ∷ []) }
+    ensures { let e = expr_at (trees tree.now) id in MatchOption result (variable e ≡ [])
+        (λ t. variable e ≡ named t.now (expr_place e) ∷ []) }
 {
     match tree.expr(id) {
         Expr::Name(text) => Some(text),

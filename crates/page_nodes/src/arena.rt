@@ -198,7 +198,8 @@ impl Arena {
     // is known that does not.
     fn is_in_ordered(&self, node: u32, apart: Option<u32>, tops: &[u32]) -> bool
         requires node { node < length (nodes_in self.now) }
-        requires apart { (a : ℕ) → apart ≡ Some a → list_any (λ t. has a (tree (nodes_in self.now) t)) tops.now ≡ false }
+        requires apart { (a : ℕ) → apart ≡ Some a
+            → list_any (λ t. has a (tree (nodes_in self.now) t)) tops.now ≡ false }
         requires in_order { IsSorted nat_cmp tops.now }
         ensures { result ≡ list_any (λ t. has node (tree (nodes_in self.now) t)) tops.now }
     {

@@ -90,7 +90,8 @@ fn lift_children(rows: &mut Vec<Row>, alloc: Global, parent: u32) -> Vec<u32>
     requires { parent < length (entries rows.old.items) }
     ensures links { entries rows.new.items ≡ with_children (entries rows.old.items) parent [] }
     ensures items { result.items ≡ children_in rows.old.items parent }
-    ensures room { (t : ℕ) → (if t == parent then room_in result else room_at rows.new.items t) ≡ room_at rows.old.items t }
+    ensures room { (t : ℕ) → (if t == parent then room_in result else room_at rows.new.items t)
+        ≡ room_at rows.old.items t }
 {
     let none = Vec::new(alloc);
     mem::replace(&mut rows[parent as usize].children, none)
@@ -101,7 +102,8 @@ fn lift_children(rows: &mut Vec<Row>, alloc: Global, parent: u32) -> Vec<u32>
 fn set_children(rows: &mut Vec<Row>, parent: u32, children: Vec<u32>)
     requires { parent < length (entries rows.old.items) }
     ensures links { entries rows.new.items ≡ with_children (entries rows.old.items) parent children.items }
-    ensures room { (t : ℕ) → room_at rows.new.items t ≡ (if t == parent then room_in children else room_at rows.old.items t) }
+    ensures room { (t : ℕ) → room_at rows.new.items t
+        ≡ (if t == parent then room_in children else room_at rows.old.items t) }
 {
     rows[parent as usize].children = children;
 }

@@ -348,12 +348,14 @@ impl Page {
         in_order: &[NodeId],
     ) -> bool
         requires targets { AreNodes (nodes self.now) targets.now }
-        requires owned { (j : ℕ) → j < length targets.now → (at (nodes self.now) (slice_index targets.now j)).owner ≡ owner }
+        requires owned { (j : ℕ) → j < length targets.now
+            → (at (nodes self.now) (slice_index targets.now j)).owner ≡ owner }
         requires news { AreNodes (nodes self.now) news.now }
         requires in_order { IsSorted nat_cmp in_order.now }
         requires same { IsPermutation news.now in_order.now }
         ensures { MatchBool result
-            ((j : ℕ) → j < length targets.now → MayPutAll (nodes self.now) (root self.now) (slice_index targets.now j) news.now)
+            ((j : ℕ) → j < length targets.now
+            → MayPutAll (nodes self.now) (root self.now) (slice_index targets.now j) news.now)
             (SomeNode targets.now (MayNotPutAll (nodes self.now) (root self.now) news.now)) }
     {
         if targets.is_empty() {

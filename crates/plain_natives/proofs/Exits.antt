@@ -25,10 +25,10 @@ use Rattle.js_image.specs.declared.outcome.StopCause.{StopCause}
 use Rattle.js_values.specs.Fuel.{Fuel}
 use Rattle.js_values.specs.declared.outcome.NativeOut.{NativeOut}
 use Rattle.js_values.specs.declared.outcome.NativeOut.TheVariants as native
-use Rattle.native_common.specs.Meets.{Ends, Meets}
+use Rattle.native_common.specs.Refines.{Ends, Refines}
 use Rattle.native_common.specs.Numbers as numbers
 use Rattle.native_common.specs.Numbers.{counted}
-use Rattle.native_common.proofs.Meeting.{ends_here, ends_same, meets_free, meets_same}
+use Rattle.native_common.proofs.Meeting.{ends_here, ends_same, refines_free, refines_same}
 use Rattle.native_common.proofs.Seen.{nth_seen}
 
 -- ## Arguments
@@ -98,26 +98,26 @@ first_none (x ∷ xs) e = absurd (none_some e)
 
 module _ (w : ℕ) (s : Cells) (p : ℕ → State → Plan) where
   -- a fault before any charge
-  pub throws : (f : Fault) (had : Fuel) → ((fs : List Forest) (r : Rest) (d : ℕ) → p d (image fs r w s) ≡ throw (meant_fault f) (image fs r w s)) → Meets w s s had had p (native.Throw f)
-  throws f had e = meets_free w s s p (native.Throw f) had (ends_here w s p (native.Throw f) (λ fs r node d. e fs r d) tt)
+  pub throws : (f : Fault) (had : Fuel) → ((fs : List Forest) (r : Rest) (d : ℕ) → p d (image fs r w s) ≡ throw (meant_fault f) (image fs r w s)) → Refines w s s had had p (native.Throw f)
+  throws f had e = refines_free w s s p (native.Throw f) had (ends_here w s p (native.Throw f) (λ fs r node d. e fs r d) tt)
 
   -- what ends the rest after a charge
-  pub charged_as : (q : ℕ → State → Plan) (n asked : ℕ) (o : NativeOut) (had has : Fuel) (out : NativeOut) → ((plan : ℕ → State → Plan) (m : ℕ) → asked ≡ counted m → Ends w s s plan o → Meets w s s had has (λ d t. charge m t (plan d t)) out) → asked ≡ counted n → Ends w s s q o → ((fs : List Forest) (r : Rest) (d : ℕ) → p d (image fs r w s) ≡ charge n (image fs r w s) (q d (image fs r w s))) → Meets w s s had has p out
-  charged_as q n asked o had has out h e ends same = meets_same w s s p (λ d t. charge n t (q d t)) out had has same (h q n e ends)
+  pub charged_as : (q : ℕ → State → Plan) (n asked : ℕ) (o : NativeOut) (had has : Fuel) (out : NativeOut) → ((plan : ℕ → State → Plan) (m : ℕ) → asked ≡ counted m → Ends w s s plan o → Refines w s s had has (λ d t. charge m t (plan d t)) out) → asked ≡ counted n → Ends w s s q o → ((fs : List Forest) (r : Rest) (d : ℕ) → p d (image fs r w s) ≡ charge n (image fs r w s) (q d (image fs r w s))) → Refines w s s had has p out
+  charged_as q n asked o had has out h e ends same = refines_same w s s p (λ d t. charge n t (q d t)) out had has same (h q n e ends)
 
   -- a stop after a charge
-  pub stops : (c : StopCause) (n asked : ℕ) (had has : Fuel) (out : NativeOut) → ((plan : ℕ → State → Plan) (m : ℕ) → asked ≡ counted m → Ends w s s plan (native.Stop c) → Meets w s s had has (λ d t. charge m t (plan d t)) out) → asked ≡ counted n → ((fs : List Forest) (r : Rest) (d : ℕ) → p d (image fs r w s) ≡ charge n (image fs r w s) (Halt (meant_cause c) (image fs r w s))) → Meets w s s had has p out
+  pub stops : (c : StopCause) (n asked : ℕ) (had has : Fuel) (out : NativeOut) → ((plan : ℕ → State → Plan) (m : ℕ) → asked ≡ counted m → Ends w s s plan (native.Stop c) → Refines w s s had has (λ d t. charge m t (plan d t)) out) → asked ≡ counted n → ((fs : List Forest) (r : Rest) (d : ℕ) → p d (image fs r w s) ≡ charge n (image fs r w s) (Halt (meant_cause c) (image fs r w s))) → Refines w s s had has p out
   stops c n asked had has out h e same = charged_as (λ d t. Halt (meant_cause c) t) n asked (native.Stop c) had has out h e (ends_here w s (λ d t. Halt (meant_cause c) t) (native.Stop c) (λ fs r node d. refl) tt) same
 
   -- what an operator gives after a charge
-  pub operates : (x y : OpOut) (n asked : ℕ) (o : NativeOut) (had has : Fuel) (out : NativeOut) → ((plan : ℕ → State → Plan) (m : ℕ) → asked ≡ counted m → Ends w s s plan o → Meets w s s had has (λ d t. charge m t (plan d t)) out) → asked ≡ counted n → Ends w s s (λ d t. result x t) o → x ≡ y → ((fs : List Forest) (r : Rest) (d : ℕ) → p d (image fs r w s) ≡ charge n (image fs r w s) (result y (image fs r w s))) → Meets w s s had has p out
+  pub operates : (x y : OpOut) (n asked : ℕ) (o : NativeOut) (had has : Fuel) (out : NativeOut) → ((plan : ℕ → State → Plan) (m : ℕ) → asked ≡ counted m → Ends w s s plan o → Refines w s s had has (λ d t. charge m t (plan d t)) out) → asked ≡ counted n → Ends w s s (λ d t. result x t) o → x ≡ y → ((fs : List Forest) (r : Rest) (d : ℕ) → p d (image fs r w s) ≡ charge n (image fs r w s) (result y (image fs r w s))) → Refines w s s had has p out
   operates x y n asked o had has out h e ends is same = charged_as (λ d t. result y t) n asked o had has out h e (ends_same w s s (λ d t. result y t) (λ d t. result x t) o (λ fs r d. ap (λ z. result z (image fs r w s)) (sym is)) ends) same
 
 -- ## Results
 
 -- what a native gives for every widget and every store, at one of them
-pub ok_at : (outcome : Result NativeOut Memory) (w : ℕ) (s : Cells) (had has : Fuel) (p : ℕ → State → Plan) (q : ℕ → Cells → ℕ → State → Plan) → ((fs : List Forest) (r : Rest) (d : ℕ) → p d (image fs r w s) ≡ q w s d (image fs r w s)) → IfOk outcome (λ o. (v : ℕ) (t : Cells) → Meets v t t had has (q v t) o) → IfOk outcome (Meets w s s had has p)
-ok_at outcome w s had has p q e h = IfOk-weaker outcome (λ o. (v : ℕ) (t : Cells) → Meets v t t had has (q v t) o) (Meets w s s had has p) (λ o k. meets_same w s s p (q w s) o had has e (k w s)) h
+pub ok_at : (outcome : Result NativeOut Memory) (w : ℕ) (s : Cells) (had has : Fuel) (p : ℕ → State → Plan) (q : ℕ → Cells → ℕ → State → Plan) → ((fs : List Forest) (r : Rest) (d : ℕ) → p d (image fs r w s) ≡ q w s d (image fs r w s)) → IfOk outcome (λ o. (v : ℕ) (t : Cells) → Refines v t t had has (q v t) o) → IfOk outcome (Refines w s s had has p)
+ok_at outcome w s had has p q e h = IfOk-weaker outcome (λ o. (v : ℕ) (t : Cells) → Refines v t t had has (q v t) o) (Refines w s s had has p) (λ o k. refines_same w s s p (q w s) o had has e (k w s)) h
 
 -- an argument at a place
 pub nth_is : (w : ℕ) (cells : List PlainCell) (vs : List StoreValue) (n : ℕ) (v : StoreValue) → v ≡ unwrap_or (slice_get vs n) value.Undefined → meaning.nth n (all_seen w cells vs) ≡ seen w cells v

@@ -7,7 +7,7 @@ ghost use Rattle.widget_meaning.specs.Values.{to_number};
 ghost use Rattle.widget_meaning.specs.GlobalNatives as means;
 ghost use Rattle.js_image.specs.Image.{all_seen};
 ghost use Rattle.js_image.specs.Held.{Kept};
-ghost use Rattle.native_common.specs.Meets.{Meets};
+ghost use Rattle.native_common.specs.Refines.{Refines};
 
 use code_units::{Memory, Text, WholeRead};
 use js_values::{Fault, Meter, NativeOut, StopCause};
@@ -24,7 +24,7 @@ pub fn from_char_code(
     w: u32,
 ) -> Result<NativeOut, Memory>
     requires widget { w < 32 }
-    ensures native { IfOk result (λ o. Meets w store.old store.new meter.old meter.new
+    ensures native { IfOk result (λ o. Refines w store.old store.new meter.old meter.new
         (λ d s. means.from_char_code (all_seen w store.old.cells args.now) s) o) }
     ensures memory { OnErr result ((fs : List Forest) → Kept fs w store.old store.new) }
 {

@@ -8,7 +8,7 @@ ghost use Rattle.widget_meaning.specs.Operators as operators;
 ghost use Rattle.js_image.specs.Image.{all_seen, seen};
 ghost use Rattle.js_image.specs.Held.{AreFine, IsFine, Kept};
 ghost use Rattle.js_values.specs.Operands.{meant_out};
-ghost use Rattle.native_common.specs.Meets.{Meets};
+ghost use Rattle.native_common.specs.Refines.{Refines};
 ghost use Rattle.native_common.specs.Numbers.{IsSmallOut};
 
 use crate::codes::from_char_code;
@@ -33,7 +33,7 @@ pub fn global_native(
 ) -> Result<NativeOut, Memory>
     requires widget { w < 32 }
     requires args { AreFine w store.old.cells args.now }
-    ensures native { IfOk result (λ o. Meets w store.old store.new meter.old meter.new
+    ensures native { IfOk result (λ o. Refines w store.old store.new meter.old meter.new
         (means.global_native which None (all_seen w store.old.cells args.now)) o) }
     ensures memory { OnErr result ((fs : List Forest) → Kept fs w store.old store.new) }
 {
@@ -54,7 +54,7 @@ pub fn global_native(
 // `Boolean(v)`
 fn boolean(v: &Value, meter: &mut Meter) -> NativeOut
     ensures { (w : ℕ) (s : Cells)
-        → Meets w s s meter.old meter.new (λ d t. means.boolean_of (seen w s.cells v.now) t) result }
+        → Refines w s s meter.old meter.new (λ d t. means.boolean_of (seen w s.cells v.now) t) result }
 {
     charged(
         meter,
@@ -66,7 +66,7 @@ fn boolean(v: &Value, meter: &mut Meter) -> NativeOut
 // `Number(v)`; absent gives 0.
 fn number_native(args: &[Value], meter: &mut Meter) -> NativeOut
     ensures { (w : ℕ) (s : Cells)
-        → Meets w s s meter.old meter.new (λ d t. means.number_of (all_seen w s.cells args.now) t) result }
+        → Refines w s s meter.old meter.new (λ d t. means.number_of (all_seen w s.cells args.now) t) result }
 {
     match args.first() {
         Some(v) => number(v, meter),
@@ -76,7 +76,7 @@ fn number_native(args: &[Value], meter: &mut Meter) -> NativeOut
 
 // The number of a value.
 fn number(v: &Value, meter: &mut Meter) -> NativeOut
-    ensures { (w : ℕ) (s : Cells) → Meets w s s meter.old meter.new
+    ensures { (w : ℕ) (s : Cells) → Refines w s s meter.old meter.new
         (λ d t. means.of_number (seen w s.cells v.now) (λ r. operators.as_number r (λ z. z)) t) result }
 {
     if is_object(v) {
@@ -99,7 +99,7 @@ pub fn as_number(r: WholeRead) -> OpOut
 
 // `isNaN(v)`, or `isFinite(v)`.
 fn nan_or_not(v: &Value, nan: bool, meter: &mut Meter) -> NativeOut
-    ensures { (w : ℕ) (s : Cells) → Meets w s s meter.old meter.new
+    ensures { (w : ℕ) (s : Cells) → Refines w s s meter.old meter.new
         (λ d t. means.of_number (seen w s.cells v.now) (means.nan_or_not nan) t) result }
 {
     if is_object(v) {
@@ -130,7 +130,7 @@ fn string_native(
 ) -> Result<NativeOut, Memory>
     requires widget { w < 32 }
     requires args { AreFine w store.old.cells args.now }
-    ensures native { IfOk result (λ o. Meets w store.old store.new meter.old meter.new
+    ensures native { IfOk result (λ o. Refines w store.old store.new meter.old meter.new
         (λ d s. means.string_native (all_seen w store.old.cells args.now) d s) o) }
     ensures memory { OnErr result ((fs : List Forest) → Kept fs w store.old store.new) }
 {
@@ -153,7 +153,7 @@ fn string(
 ) -> Result<NativeOut, Memory>
     requires widget { w < 32 }
     requires arg { IsFine w store.old.cells v.now }
-    ensures native { IfOk result (λ o. Meets w store.old store.new meter.old meter.new
+    ensures native { IfOk result (λ o. Refines w store.old store.new meter.old meter.new
         (λ d s. means.string_of (seen w store.old.cells v.now) d s) o) }
     ensures memory { OnErr result ((fs : List Forest) → Kept fs w store.old store.new) }
 {
@@ -177,7 +177,7 @@ fn parse_int(
     radix: &Value,
     meter: &mut Meter,
 ) -> Result<NativeOut, Memory>
-    ensures { IfOk result (λ o. (w : ℕ) (s : Cells) → Meets w s s meter.old meter.new
+    ensures { IfOk result (λ o. (w : ℕ) (s : Cells) → Refines w s s meter.old meter.new
         (λ d t. means.parse_int (seen w s.cells v.now) (seen w s.cells radix.now) t) o) }
 {
     if either_object(v, radix) {

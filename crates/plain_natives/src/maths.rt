@@ -8,7 +8,7 @@ ghost use Rattle.widget_meaning.specs.Operators as operators;
 ghost use Rattle.widget_meaning.specs.Operators.{of_numbers};
 ghost use Rattle.js_image.specs.Image.{all_seen, seen};
 ghost use Rattle.js_values.specs.Operands.{meant_out};
-ghost use Rattle.native_common.specs.Meets.{Meets};
+ghost use Rattle.native_common.specs.Refines.{Refines};
 ghost use Rattle.native_common.specs.Numbers.{IsSmallOut};
 ghost use Rattle.plain_natives.specs.Choices.{better, changed};
 
@@ -26,7 +26,7 @@ pub fn math_native(
     args: &[Value],
     meter: &mut Meter,
 ) -> Result<NativeOut, Memory>
-    ensures { IfOk result (λ o. (w : ℕ) (s : Cells) → Meets w s s meter.old meter.new
+    ensures { IfOk result (λ o. (w : ℕ) (s : Cells) → Refines w s s meter.old meter.new
         (means.math_native which None (all_seen w s.cells args.now)) o) }
 {
     let absent = Value::Undefined;
@@ -51,7 +51,7 @@ fn of_one(
     meter: &mut Meter,
 ) -> Result<NativeOut, Memory>
     requires { first.now ≡ unwrap_or (slice_get args.now 0) Value.Undefined }
-    ensures { IfOk result (λ o. (w : ℕ) (s : Cells) → Meets w s s meter.old meter.new
+    ensures { IfOk result (λ o. (w : ℕ) (s : Cells) → Refines w s s meter.old meter.new
         (λ d t. means.of_one (all_seen w s.cells args.now) (changed magnitude) t) o) }
 {
     if is_object(first) {
@@ -88,7 +88,7 @@ fn changed(z: i64, magnitude: bool) -> Result<i64, Memory>
 
 // `max`, or `min`.
 fn of_all(args: &[Value], max: bool, meter: &mut Meter) -> NativeOut
-    ensures { (w : ℕ) (s : Cells) → Meets w s s meter.old meter.new
+    ensures { (w : ℕ) (s : Cells) → Refines w s s meter.old meter.new
         (λ d t. means.of_all (all_seen w s.cells args.now) (better max) t) result }
 {
     if any_object(args) {
@@ -148,7 +148,7 @@ fn better(x: i64, y: i64, max: bool) -> i64
 
 // `pow(a, b)`
 fn pow(a: &Value, b: &Value, n: usize, meter: &mut Meter) -> NativeOut
-    ensures { (w : ℕ) (s : Cells) → Meets w s s meter.old meter.new
+    ensures { (w : ℕ) (s : Cells) → Refines w s s meter.old meter.new
         (λ d t. means.pow (seen w s.cells a.now) (seen w s.cells b.now) n t) result }
 {
     if either_object(a, b) {

@@ -271,7 +271,9 @@ impl PropertyNames {
     /// Whether a name is listed: it is permitted, and no `length` of an Array. A number that no name has
     /// is not.
     pub fn is_listed(&self, array: bool, n: u32) -> bool
-        ensures { result ≡ option_map_or (λ name. is_permitted name && not (array && bytes_eq name (codes "length"))) (slice_get self.now n) false }
+        ensures { result ≡ option_map_or
+            (λ name. is_permitted name && not (array && bytes_eq name (codes "length")))
+            (slice_get self.now n) false }
     {
         let _names = &self.names;
         match ruled_at(n) {
@@ -282,7 +284,9 @@ impl PropertyNames {
 
     fn is_interned_listed(&self, array: bool, n: u32) -> bool
         requires { ruled_number n ≡ None }
-        ensures { result ≡ option_map_or (λ name. is_permitted name && not (array && bytes_eq name (codes "length"))) (slice_get self.now n) false }
+        ensures { result ≡ option_map_or
+            (λ name. is_permitted name && not (array && bytes_eq name (codes "length")))
+            (slice_get self.now n) false }
     {
         match self.interned_at(n) {
             None => false,

@@ -1,7 +1,9 @@
 //! Queries: how they are written, and what they find.
 //!
-//! `specs/Queries.antt` says which units spell which query, as a relation between units and steps; a step is a hunter that finds nodes, with filters that keep some of them.
-//! `specs/Machine.antt` is its machine, which takes one unit at a time. `specs/Finds.antt` says what a query finds of what it sees of a page.
+//! `specs/Queries.antt` says which units spell which query, as a relation between units and steps; a step is
+//! a hunter that finds nodes, with filters that keep some of them.
+//! `specs/Machine.antt` is its machine, which takes one unit at a time. `specs/Finds.antt` says what a query
+//! finds of what it sees of a page.
 //! The functions that do nothing carry the laws.
 #![tactic(auto)]
 

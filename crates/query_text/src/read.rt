@@ -190,7 +190,8 @@ fn filters_end(units: &[u16], at: usize) -> Result<usize, usize>
     requires { at ≤ length units.now }
     ensures { MatchResult result
         (λ end. StandFilters units.now at end)
-        (λ place. (steps : List Step) (hunter : Found) → Refuses units.now (Inside steps hunter []) at (fault.BadQuery place)) }
+        (λ place. (steps : List Step) (hunter : Found)
+        → Refuses units.now (Inside steps hunter []) at (fault.BadQuery place)) }
 {
     let mut place = at;
     'filters: while place < units.len() {

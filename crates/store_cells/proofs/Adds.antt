@@ -12,7 +12,7 @@ use Rattle.store_cells.specs.declared.counts.Counts.{Counts}
 use Rattle.store_cells.specs.Lists.{changed}
 use Rattle.store_cells.specs.Cells.{PlainCell, is_bunch, is_raw, kept_cells, is_scope, node_in}
 use Rattle.store_cells.specs.Numbered.{NumberedCell, cells_of, heads, own_head, node_head, plain}
-use Rattle.store_cells.specs.Shape.{AreClosed, IsFine, AreFine, AreOrdered, IsOrdered, AreRaws, AreWithin, IsBase, IsShape, bunch_at, scope_at, links_at, scope_in, node_head_at, Added}
+use Rattle.store_cells.specs.Shape.{AreClosed, IsWellFormed, AreWellFormed, AreOrdered, IsOrdered, AreRaws, AreWithin, IsBase, IsShape, bunch_at, scope_at, links_at, scope_in, node_head_at, Added}
 use Rattle.store_cells.specs.Costs.{paid}
 use Rattle.store_cells.specs.Born.{raw_place}
 use Rattle.store_cells.proofs.Lists.{none_some, some_same, by_push, get_older, get_within, count_before-push, count_by-push, length-changed}
@@ -65,23 +65,23 @@ module _ (hs : List Head) (x : Head) where
     each = by_push hs x (λ i h. IsOrdered (hs ++ x ∷ []) i h) (λ i h g. ordered_older i h (omega (arith, get_within hs i h g)) (all.each i h g)) (ordered_older (length hs) x (omega arith) new);
   }
 
-pub fine_push : (names : List (List ℕ)) (size : ℕ) (cs : List NumberedCell) (c : NumberedCell) → AreFine names size cs → IsFine names size c → AreFine names size (cs ++ c ∷ [])
+pub fine_push : (names : List (List ℕ)) (size : ℕ) (cs : List NumberedCell) (c : NumberedCell) → AreWellFormed names size cs → IsWellFormed names size c → AreWellFormed names size (cs ++ c ∷ [])
 fine_push names size [] c h k = (k, tt)
 fine_push names size (x ∷ cs) c h k = (h.0, fine_push names size cs c h.1 k)
 
 pub heads_push : (cs : List NumberedCell) (c : NumberedCell) → heads (cs ++ c ∷ []) ≡ heads cs ++ c.head ∷ []
 heads_push cs c = map-append (λ d. d.head) cs (c ∷ [])
 
-pub base_push : (names : List (List ℕ)) (cs : List NumberedCell) (c : NumberedCell) → IsBase names cs → IsFine names (length cs + 1) c → IsOrdered (heads cs) (length cs) c.head → IsBase names (cs ++ c ∷ [])
+pub base_push : (names : List (List ℕ)) (cs : List NumberedCell) (c : NumberedCell) → IsBase names cs → IsWellFormed names (length cs + 1) c → IsOrdered (heads cs) (length cs) c.head → IsBase names (cs ++ c ∷ [])
 base_push names cs c base fine new = record {
   table = base.table;
   words = base.words;
-  fine = subst (λ n. AreFine names n (cs ++ c ∷ [])) (sym (length-append cs (c ∷ []))) (fine_push names (length cs + 1) cs c (all_fine_stay names names (omega arith) (λ k lt. refl) (length cs) (length cs + 1) cs (omega arith) base.fine) fine);
+  fine = subst (λ n. AreWellFormed names n (cs ++ c ∷ [])) (sym (length-append cs (c ∷ []))) (fine_push names (length cs + 1) cs c (all_fine_stay names names (omega arith) (λ k lt. refl) (length cs) (length cs + 1) cs (omega arith) base.fine) fine);
   ordered = subst AreOrdered (sym (heads_push cs c)) (ordered_push (heads cs) c.head base.ordered (subst (λ n. IsOrdered (heads cs) n c.head) (sym (length-map cs (λ d. d.head))) new));
 }
 
 -- `add`
-pub added_ok : (names : List (List ℕ)) (cs after : List NumberedCell) (c : NumberedCell) {E : Type 0} (r : Result ℕ E) → IsBase names cs → IsFine names (length cs + 1) c → IsOrdered (heads cs) (length cs) c.head → IfOk r (λ id. (id ≡ length cs) × (after ≡ cs ++ c ∷ [])) → IfOk r (λ id. Added names cs names after c id)
+pub added_ok : (names : List (List ℕ)) (cs after : List NumberedCell) (c : NumberedCell) {E : Type 0} (r : Result ℕ E) → IsBase names cs → IsWellFormed names (length cs + 1) c → IsOrdered (heads cs) (length cs) c.head → IfOk r (λ id. (id ≡ length cs) × (after ≡ cs ++ c ∷ [])) → IfOk r (λ id. Added names cs names after c id)
 added_ok names cs after c (Ok id) base fine new ok = record {
   place = ok.0;
   items = ok.1;

@@ -22,7 +22,7 @@ use Rattle.store_cells.specs.Arrays.{end_of, is_reference, length_in, length_nam
 use Rattle.store_cells.specs.Born.{filled_cell}
 use Rattle.store_cells.specs.Bunches.{array_pairs, elements}
 use Rattle.store_cells.specs.Numbered.{NumberedCell, Grown, element_recounted, plain, named, found_in, numbered_written, references_in, refers_at}
-use Rattle.store_cells.specs.Shape.{AreElements, AreEntries, AreRefs, AreWords, IsArrayOf, IsFine, IsIndexed, Known}
+use Rattle.store_cells.specs.Shape.{AreElements, AreEntries, AreRefs, AreWords, IsArrayOf, IsWellFormed, IsIndexed, Known}
 use Rattle.store_cells.proofs.Entries.{ref_more}
 use Rattle.store_cells.proofs.Indexed.{indexed_written, indexed_none, indexed_stay}
 use Rattle.store_cells.proofs.Lists.{none_some, some_same}
@@ -206,7 +206,7 @@ pub refs_elements : (size k : ℕ) (vs : List Value) → AreElements size vs →
 refs_elements size k [] h = tt
 refs_elements size k (v ∷ vs) h = (h.0, refs_elements size (suc k) vs h.1)
 
-pub array_fine : (names : List (List ℕ)) (size : ℕ) (h : Head) (count : ℕ) (vs : List Value) (c : NumberedCell) → IsTable names → AreWords names → length vs ≤ 4294967295 → count ≤ 4294967295 → AreElements size vs → IsArrayOf names h count vs c → IsFine names size c
+pub array_fine : (names : List (List ℕ)) (size : ℕ) (h : Head) (count : ℕ) (vs : List Value) (c : NumberedCell) → IsTable names → AreWords names → length vs ≤ 4294967295 → count ≤ 4294967295 → AreElements size vs → IsArrayOf names h count vs c → IsWellFormed names size c
 array_fine names size h count vs c table words few le refs is = record {
   entries = known_refs names (length names) size c.entries is.known (subst (AreRefs size) (sym is.pairs) (tt, refs_elements size 0 vs refs));
   array = λ a. record {

@@ -14,7 +14,7 @@ use Rattle.store_cells.specs.declared.cell.Head.{Head}
 use Rattle.store_cells.specs.Cells.{PlainCell, is_array}
 use Rattle.store_cells.specs.Arrays.{length_name, nodes_name}
 use Rattle.store_cells.specs.Numbered.{NumberedCell, Grown, plain, cells_of, heads, own_head}
-use Rattle.store_cells.specs.Shape.{AreRefs, AreWords, Grew, IsBase, IsFine, IsOrdered, Kept, Known, scope_at, scope_head}
+use Rattle.store_cells.specs.Shape.{AreRefs, AreWords, Grew, IsBase, IsWellFormed, IsOrdered, Kept, Known, scope_at, scope_head}
 use Rattle.store_cells.specs.Born.{filled_cell, with_pair}
 use Rattle.store_cells.proofs.Lists.{get_within}
 use Rattle.store_cells.proofs.Look.{known_cells}
@@ -104,7 +104,7 @@ refs_more : (m n : ℕ) (ps : List (List ℕ × Value)) → m ≤ n → AreRefs 
 refs_more m n [] le h = tt
 refs_more m n (p ∷ ps) le h = (ref_more m n p.1 le h.0, refs_more m n ps le h.1)
 
-pub filled_fine : (names : List (List ℕ)) (size : ℕ) (h : Head) (pairs : List (List ℕ × Value)) (c : NumberedCell) → Known (length names) c.entries → c.head ≡ h → plain names c ≡ filled_cell h pairs → is_array h.form ≡ false → AreRefs size pairs → IsFine names (size + 1) c
+pub filled_fine : (names : List (List ℕ)) (size : ℕ) (h : Head) (pairs : List (List ℕ × Value)) (c : NumberedCell) → Known (length names) c.entries → c.head ≡ h → plain names c ≡ filled_cell h pairs → is_array h.form ≡ false → AreRefs size pairs → IsWellFormed names (size + 1) c
 filled_fine names size h pairs c known head is other refs = record {
   entries = known_refs names (length names) (size + 1) c.entries known (subst (AreRefs (size + 1)) (sym (ap (λ (p : PlainCell). p.pairs) is)) (refs_more size (size + 1) pairs (omega arith) refs));
   array = λ a. absurd (false_true (sym other ∙ ap (λ (k : Head). is_array k.form) (sym head) ∙ a));
@@ -142,7 +142,7 @@ module _ (old new : List (List ℕ)) (grown : Grown old new) (table : IsTable ne
   kept_same after (Ok x) e = tt
   kept_same after (Err x) e = grown_kept after e
 
-  module _ (h : Head) (pairs : List (List ℕ × Value)) (c : NumberedCell) (head : c.head ≡ h) (is : plain new c ≡ filled_cell h pairs) (fine : IsFine new (length cs + 1) c) (ordered : IsOrdered (heads cs) (length cs) h) where
+  module _ (h : Head) (pairs : List (List ℕ × Value)) (c : NumberedCell) (head : c.head ≡ h) (is : plain new c ≡ filled_cell h pairs) (fine : IsWellFormed new (length cs + 1) c) (ordered : IsOrdered (heads cs) (length cs) h) where
     cell_grew : (after : List NumberedCell) → after ≡ cs ++ c ∷ [] → Grew old cs new after (filled_cell h pairs) h
     cell_grew after e = record {
       done = ap (cells_of new) e ∙ map-append (plain new) cs (c ∷ []) ∙ (λ j. grown_cells j ++ is j ∷ []);

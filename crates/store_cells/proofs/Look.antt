@@ -14,7 +14,7 @@ use Rattle.store_cells.specs.declared.counts.Counts.{Counts}
 use Rattle.store_cells.specs.Lists.{climb}
 use Rattle.store_cells.specs.Cells.{PlainCell, Cells, has_own, own_value_at, holder, value_along}
 use Rattle.store_cells.specs.Numbered.{NumberedCell, named, name_at, plain, cells_of, numbered_has, numbered_own, numbered_holder, numbered_along, numbered_has_at}
-use Rattle.store_cells.specs.Shape.{Known, AreKnown, AreEntries, AreFine, IsShape}
+use Rattle.store_cells.specs.Shape.{Known, AreKnown, AreEntries, AreWellFormed, IsShape}
 use Rattle.store_cells.proofs.Lists.{none_some, some_same}
 
 pub known_at : (n : ℕ) (cs : List NumberedCell) (i : ℕ) (c : NumberedCell) → AreKnown n cs → slice_get cs i ≡ Some c → Known n c.entries
@@ -26,7 +26,7 @@ pub known_entries : (n size : ℕ) (es : List (ℕ × Value)) → AreEntries n s
 known_entries n size [] h = tt
 known_entries n size (e ∷ es) h = (h.0.0, known_entries n size es h.1)
 
-pub known_cells : (names : List (List ℕ)) (size : ℕ) (cs : List NumberedCell) → AreFine names size cs → AreKnown (length names) cs
+pub known_cells : (names : List (List ℕ)) (size : ℕ) (cs : List NumberedCell) → AreWellFormed names size cs → AreKnown (length names) cs
 known_cells names size [] h = tt
 known_cells names size (c ∷ cs) h = (known_entries (length names) size c.entries h.0.entries, known_cells names size cs h.1)
 

@@ -17,7 +17,7 @@ use Rattle.store_cells.specs.Lists.{changed, count_before}
 use Rattle.store_cells.specs.Cells.{is_bunch, is_bunch_at, PlainCell, Cells, kept_cells, is_scope, is_array, is_own, is_visible_form, is_scope_at, node_in, prototypes, raw_cell}
 use Rattle.store_cells.specs.Arrays.{end_of, length_name, count_value}
 use Rattle.store_cells.specs.Numbered.{NumberedCell, plain, named, cells_of, heads, own_head, first_numbered, node_head}
-use Rattle.store_cells.specs.Shape.{AreClosed, AreEntries, IsArrayTable, IsFine, IsOrdered, AreRaws, AreWords, IsShape, bunch_at, scope_at, links_at, scope_in, Added, head_on}
+use Rattle.store_cells.specs.Shape.{AreClosed, AreEntries, IsArrayTable, IsWellFormed, IsOrdered, AreRaws, AreWords, IsShape, bunch_at, scope_at, links_at, scope_in, Added, head_on}
 use Rattle.store_cells.specs.Costs.{paid}
 use Rattle.store_cells.specs.Born.{new_cell, made, raw_place}
 use Rattle.store_cells.proofs.Lists.{count_before-all, count_by-push}
@@ -90,7 +90,7 @@ module _ (names : List (List ℕ)) (cs : List NumberedCell) (kept : List Counts)
         counted ∙ shape.exact w widget ∙ sym (count_before-all (own_head w) (heads cs)) ∙ ap (λ n. count_before (own_head w) (heads cs) n) (length-map cs (λ c. c.head)) ∙ ap (λ u. count_before (own_head u) (heads cs) (length cs)) is;
   }
 
-pub first_fine : (names : List (List ℕ)) (size : ℕ) → IsTable names → AreWords names → (h : Head) → IsFine names size (first_numbered h)
+pub first_fine : (names : List (List ℕ)) (size : ℕ) → IsTable names → AreWords names → (h : Head) → IsWellFormed names size (first_numbered h)
 first_fine names size table words h = record {
   entries = entries (is_array h.form);
   array = λ a. subst (λ b. IsArrayTable names (record { head = h; elements = []; references = 0; entries = if b then (0, count_value 0) ∷ [] else [] })) (sym a) table_one;
@@ -173,7 +173,7 @@ module _ (s : Cells) (names : List (List ℕ)) (cs : List NumberedCell) {raws : 
     number = λ w e. absurd (false_true e);
   }
 
-  pub node_fine : (node size : ℕ) → IsFine names size (record { head = node_head node; elements = []; references = 0; entries = [] })
+  pub node_fine : (node size : ℕ) → IsWellFormed names size (record { head = node_head node; elements = []; references = 0; entries = [] })
   node_fine node size = record {
     entries = tt;
     array = λ e. absurd (false_true e);

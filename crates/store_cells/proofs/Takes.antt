@@ -11,7 +11,7 @@ use Rattle.store_cells.specs.Lists.{changed}
 use Rattle.store_cells.specs.Cells.{PlainCell, is_array}
 use Rattle.store_cells.specs.Arrays.{end_of, length_in, length_name, written}
 use Rattle.store_cells.specs.Numbered.{NumberedCell, element_recounted, found_in, plain, named, cells_of, heads, numbered_without, numbered_held, numbered_has, numbered_holder, refers_at}
-use Rattle.store_cells.specs.Shape.{IsBase, IsFine, IsRefWithin, Wrote, scope_at}
+use Rattle.store_cells.specs.Shape.{IsBase, IsWellFormed, IsRefWithin, Wrote, scope_at}
 use Rattle.store_cells.specs.Arrays.{without}
 use Rattle.store_cells.proofs.Look.{known_entries, remove_named, insert_named, climb_has}
 use Rattle.store_cells.proofs.Entries.{entries_remove, entries_insert, lookup_removed}
@@ -36,13 +36,13 @@ module _ (names : List (List ℕ)) (cs : List NumberedCell) (base : IsBase names
     heads = ap heads e ∙ changed_heads names cs base i (numbered_without n end) (λ c. refl);
   }
     where
-      alike : (c : NumberedCell) → slice_get cs i ≡ Some c → IsFine names (length cs) c → plain names (numbered_without n end c) ≡ without name (plain names c)
+      alike : (c : NumberedCell) → slice_get cs i ≡ Some c → IsWellFormed names (length cs) c → plain names (numbered_without n end c) ≡ without name (plain names c)
       alike c g fine =
           let p = remove_named names name n (same_test names name n base.table at) c.entries (known_entries (length names) (length cs) c.entries fine.entries) in
           (λ j. record { owner = c.head.owner; form = c.head.form; up = c.head.up; pairs = p j })
           ∙ sym (ap (λ b. let d : PlainCell = if b then plain names c else record { owner = c.head.owner; form = c.head.form; up = c.head.up; pairs = remove_entry (bytes_eq name) (named names c.entries) } in d) (kept c g))
 
-      fine : (c : NumberedCell) → slice_get cs i ≡ Some c → IsFine names (length cs) c → IsFine names (length cs) (numbered_without n end c)
+      fine : (c : NumberedCell) → slice_get cs i ≡ Some c → IsWellFormed names (length cs) c → IsWellFormed names (length cs) (numbered_without n end c)
       fine c g h = record {
         entries = entries_remove (length names) (length cs) n c.entries h.entries;
         array = λ a. record {
@@ -64,12 +64,12 @@ module _ (names : List (List ℕ)) (cs : List NumberedCell) (base : IsBase names
     heads = ap heads e ∙ changed_heads names cs base i (numbered_held n v) (λ c. refl);
   }
     where
-      alike : (c : NumberedCell) → slice_get cs i ≡ Some c → IsFine names (length cs) c → plain names (numbered_held n v c) ≡ written name v (plain names c)
+      alike : (c : NumberedCell) → slice_get cs i ≡ Some c → IsWellFormed names (length cs) c → plain names (numbered_held n v c) ≡ written name v (plain names c)
       alike c g fine =
           let p = insert_named names name n (same_test names name n base.table at) c.entries v (known_entries (length names) (length cs) c.entries fine.entries) (get_or_from_slice_get names n name [] at) in
           λ j. record { owner = c.head.owner; form = c.head.form; up = c.head.up; pairs = p j }
 
-      fine : (c : NumberedCell) → slice_get cs i ≡ Some c → IsFine names (length cs) c → IsFine names (length cs) (numbered_held n v c)
+      fine : (c : NumberedCell) → slice_get cs i ≡ Some c → IsWellFormed names (length cs) c → IsWellFormed names (length cs) (numbered_held n v c)
       fine c g h = record {
         entries = entries_insert (length names) (length cs) n v c.entries h.entries within ref;
         array = λ a. absurd (scope_no_array c.head.form (scope_form names cs base.ordered i c g (holder_scope names cs base.ordered n from i scope found)) a);

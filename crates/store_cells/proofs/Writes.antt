@@ -18,7 +18,7 @@ use Rattle.store_cells.specs.Lists.{changed}
 use Rattle.store_cells.specs.Cells.{PlainCell, is_array}
 use Rattle.store_cells.specs.Arrays.{end_of, is_below, is_reference, length_in, length_name, count_value, written, cut}
 use Rattle.store_cells.specs.Numbered.{NumberedCell, plain, named, name_at, cells_of, element_recounted, found_in, heads, noted, numbered_written, numbered_two, numbered_held, numbered_cut, plan_of, by_plan, references_in, refers_at}
-use Rattle.store_cells.specs.Shape.{IsIndexed, Known, AreKnown, AreEntries, IsFine, AreFine, AreWords, AreOrdered, IsBase, IsRefWithin, Wrote, Kept}
+use Rattle.store_cells.specs.Shape.{IsIndexed, Known, AreKnown, AreEntries, IsWellFormed, AreWellFormed, AreWords, AreOrdered, IsBase, IsRefWithin, Wrote, Kept}
 use Rattle.store_cells.proofs.Lists.{none_some, some_same, length-changed, map-changed, map-unchanged}
 use Rattle.store_cells.proofs.Look.{known_entries, known_cells, insert_named}
 use Rattle.store_cells.proofs.Entries.{entries_more, entries_insert, entries_filter, lookup_inserted, lookup_other, lookup_filter, named_filter}
@@ -26,12 +26,12 @@ use Rattle.store_cells.proofs.Indexed.{indexed_cut, indexed_stay, indexed_writte
 use Rattle.store_cells.proofs.Referring.{references_stay, referring_written}
 use Rattle.store_cells.proofs.Plans.{own_facts, longer_facts, length_facts}
 
-pub fine_at : (names : List (List ℕ)) (size : ℕ) (cs : List NumberedCell) (i : ℕ) (c : NumberedCell) → AreFine names size cs → slice_get cs i ≡ Some c → IsFine names size c
+pub fine_at : (names : List (List ℕ)) (size : ℕ) (cs : List NumberedCell) (i : ℕ) (c : NumberedCell) → AreWellFormed names size cs → slice_get cs i ≡ Some c → IsWellFormed names size c
 fine_at names size [] i c h e = absurd (none_some e)
-fine_at names size (x ∷ cs) zero c h e = subst (λ (y : NumberedCell). IsFine names size y) (some_same x c e) h.0
+fine_at names size (x ∷ cs) zero c h e = subst (λ (y : NumberedCell). IsWellFormed names size y) (some_same x c e) h.0
 fine_at names size (x ∷ cs) (suc i) c h e = fine_at names size cs i c h.1 e
 
-pub fine_changed : (names : List (List ℕ)) (size : ℕ) (cs : List NumberedCell) (i : ℕ) (f : NumberedCell → NumberedCell) → AreFine names size cs → ((c : NumberedCell) → slice_get cs i ≡ Some c → IsFine names size c → IsFine names size (f c)) → AreFine names size (changed cs i f)
+pub fine_changed : (names : List (List ℕ)) (size : ℕ) (cs : List NumberedCell) (i : ℕ) (f : NumberedCell → NumberedCell) → AreWellFormed names size cs → ((c : NumberedCell) → slice_get cs i ≡ Some c → IsWellFormed names size c → IsWellFormed names size (f c)) → AreWellFormed names size (changed cs i f)
 fine_changed names size [] i f h g = tt
 fine_changed names size (c ∷ cs) zero f h g = (g c refl h.0, h.1)
 fine_changed names size (c ∷ cs) (suc i) f h g = (h.0, fine_changed names size cs i f h.1 g)
@@ -46,7 +46,7 @@ module _ (old new : List (List ℕ)) (more : length old ≤ length new) (kept : 
   cells_stay [] h = refl
   cells_stay (c ∷ cs) h = let p = named_stay c.entries h.0 in λ j. record { owner = c.head.owner; form = c.head.form; up = c.head.up; pairs = p j } ∷ cells_stay cs h.1 j
 
-  pub fine_stay : (size size' : ℕ) (c : NumberedCell) → size ≤ size' → IsFine old size c → IsFine new size' c
+  pub fine_stay : (size size' : ℕ) (c : NumberedCell) → size ≤ size' → IsWellFormed old size c → IsWellFormed new size' c
   fine_stay size size' c le h = record {
     entries = entries_more (length old) (length new) size size' c.entries more le h.entries;
     array = λ a. record {
@@ -56,7 +56,7 @@ module _ (old new : List (List ℕ)) (more : length old ≤ length new) (kept : 
     };
   }
 
-  pub all_fine_stay : (size size' : ℕ) (cs : List NumberedCell) → size ≤ size' → AreFine old size cs → AreFine new size' cs
+  pub all_fine_stay : (size size' : ℕ) (cs : List NumberedCell) → size ≤ size' → AreWellFormed old size cs → AreWellFormed new size' cs
   all_fine_stay size size' [] le h = tt
   all_fine_stay size size' (c ∷ cs) le h = (fine_stay size size' c le h.0, all_fine_stay size size' cs le h.1)
 
@@ -81,15 +81,15 @@ module _ (names : List (List ℕ)) (cs : List NumberedCell) (base : IsBase names
   pub changed_heads : heads (changed cs i f) ≡ heads cs
   changed_heads = map-unchanged (λ c. c.head) cs i f same
 
-  pub changed_base : ((c : NumberedCell) → slice_get cs i ≡ Some c → IsFine names (length cs) c → IsFine names (length cs) (f c)) → IsBase names (changed cs i f)
+  pub changed_base : ((c : NumberedCell) → slice_get cs i ≡ Some c → IsWellFormed names (length cs) c → IsWellFormed names (length cs) (f c)) → IsBase names (changed cs i f)
   changed_base fine = record {
     table = base.table;
     words = base.words;
-    fine = subst (λ n. AreFine names n (changed cs i f)) (sym (length-changed cs i f)) (fine_changed names (length cs) cs i f base.fine fine);
+    fine = subst (λ n. AreWellFormed names n (changed cs i f)) (sym (length-changed cs i f)) (fine_changed names (length cs) cs i f base.fine fine);
     ordered = subst AreOrdered (sym changed_heads) base.ordered;
   }
 
-  pub changed_cells : (g : PlainCell → PlainCell) → ((c : NumberedCell) → slice_get cs i ≡ Some c → IsFine names (length cs) c → plain names (f c) ≡ g (plain names c)) → cells_of names (changed cs i f) ≡ changed (cells_of names cs) i g
+  pub changed_cells : (g : PlainCell → PlainCell) → ((c : NumberedCell) → slice_get cs i ≡ Some c → IsWellFormed names (length cs) c → plain names (f c) ≡ g (plain names c)) → cells_of names (changed cs i f) ≡ changed (cells_of names cs) i g
   changed_cells g alike = map-changed (plain names) cs i f g (λ c e. alike c e (fine_at names (length cs) cs i c base.fine e))
 
 -- the number of `length` and others
@@ -107,7 +107,7 @@ module _ (names : List (List ℕ)) (table : IsTable names) (words : AreWords nam
           let q : length_name ≡ name = (bytes_eq-Decides length_name (get_or names n [])).0 p ∙ here in
           absurd (true≢false (sym ((bytes_eq-Decides name length_name).1 (sym q)) ∙ differs))
 
-  pub fine_own : (size e : ℕ) (v : Value) (c : NumberedCell) → IsRefWithin size v → (is_array c.head.form ≡ true → (bytes_eq name length_name ≡ false) × (e ≡ end_of name)) → IsFine names size c → IsFine names size (numbered_written n v e c)
+  pub fine_own : (size e : ℕ) (v : Value) (c : NumberedCell) → IsRefWithin size v → (is_array c.head.form ≡ true → (bytes_eq name length_name ≡ false) × (e ≡ end_of name)) → IsWellFormed names size c → IsWellFormed names size (numbered_written n v e c)
   fine_own size e v c ref facts h = record {
     entries = entries_insert (length names) size n v c.entries h.entries within ref;
     array = λ a. record {
@@ -149,10 +149,10 @@ module _ (names : List (List ℕ)) (table : IsTable names) (words : AreWords nam
   pub length_below : (n : ℕ) → is_below n (name_at names 0) ≡ true
   length_below n = ap (is_below n) length_here
 
-  pub held_indexed : (size : ℕ) (v : Value) (c : NumberedCell) → is_array c.head.form ≡ true → IsFine names size c → IsIndexed names (found_in c.elements) (insert_entry eqb c.entries 0 v)
+  pub held_indexed : (size : ℕ) (v : Value) (c : NumberedCell) → is_array c.head.form ≡ true → IsWellFormed names size c → IsIndexed names (found_in c.elements) (insert_entry eqb c.entries 0 v)
   held_indexed size v c array h = indexed_written names table 0 zero_within c.elements 0 v c.entries (known_entries (length names) size c.entries h.entries) (ap end_of (sym length_here)) (h.array array).indexed
 
-  pub fine_held : (size n : ℕ) (v : Value) (c : NumberedCell) → length_in v ≡ Some n → IsRefWithin size v → is_array c.head.form ≡ true → IsFine names size c → IsFine names size (numbered_cut names n (numbered_held 0 v c))
+  pub fine_held : (size n : ℕ) (v : Value) (c : NumberedCell) → length_in v ≡ Some n → IsRefWithin size v → is_array c.head.form ≡ true → IsWellFormed names size c → IsWellFormed names size (numbered_cut names n (numbered_held 0 v c))
   fine_held size n v c is ref array h = record {
     entries = entries_filter (length names) size (λ e. is_below n (name_at names e.0)) (insert_entry eqb c.entries 0 v) (entries_insert (length names) size 0 v c.entries h.entries zero_within ref);
     array = λ a. record {
@@ -165,7 +165,7 @@ module _ (names : List (List ℕ)) (table : IsTable names) (words : AreWords nam
   }
 
   -- a cell whose length is written may be cut
-  pub held_known : (size : ℕ) (v : Value) (c : NumberedCell) → IsRefWithin size v → IsFine names size c → Known (length names) (insert_entry eqb c.entries 0 v)
+  pub held_known : (size : ℕ) (v : Value) (c : NumberedCell) → IsRefWithin size v → IsWellFormed names size c → Known (length names) (insert_entry eqb c.entries 0 v)
   held_known size v c ref h = known_entries (length names) size (insert_entry eqb c.entries 0 v) (entries_insert (length names) size 0 v c.entries h.entries zero_within ref)
 
   pub plain_held : (n : ℕ) (v : Value) (c : NumberedCell) → Known (length names) c.entries → plain names (numbered_cut names n (numbered_held 0 v c)) ≡ cut n (written length_name v (plain names c))
@@ -176,7 +176,7 @@ module _ (names : List (List ℕ)) (table : IsTable names) (words : AreWords nam
 
   -- an element and the length
   module _ (name : List ℕ) (k : ℕ) (at : slice_get names k ≡ Some name) (within : k < length names) where
-    pub fine_two : (size e : ℕ) (v u : Value) (c : NumberedCell) → u ≡ count_value e → e ≤ 4294967295 → IsRefWithin size v → (bytes_eq name length_name ≡ false) × (e ≡ end_of name) → IsFine names size c → IsFine names size (numbered_two k v 0 u e c)
+    pub fine_two : (size e : ℕ) (v u : Value) (c : NumberedCell) → u ≡ count_value e → e ≤ 4294967295 → IsRefWithin size v → (bytes_eq name length_name ≡ false) × (e ≡ end_of name) → IsWellFormed names size c → IsWellFormed names size (numbered_two k v 0 u e c)
     fine_two size e v u c count le ref facts h =
         let ref_u : IsRefWithin size u = subst (IsRefWithin size) (sym count) tt in
         let one = fine_own names table words name k at within size e v c ref (λ a. facts) h in
@@ -246,7 +246,7 @@ module _ (old new : List (List ℕ)) (name : List ℕ) (n : ℕ) (is : Interns o
         g : PlainCell → PlainCell
         g = by_plan (write.Longer e) name v
 
-        alike : (c : NumberedCell) → slice_get cs i ≡ Some c → IsFine new (length cs) c → plain new (f c) ≡ g (plain new c)
+        alike : (c : NumberedCell) → slice_get cs i ≡ Some c → IsWellFormed new (length cs) c → plain new (f c) ≡ g (plain new c)
         alike c at fine =
             let known = known_entries (length new) (length cs) c.entries fine.entries in
             let more = known_entries (length new) (length cs) (insert_entry eqb c.entries n v) (entries_insert (length new) (length cs) n v c.entries fine.entries is.within ref) in

@@ -54,13 +54,13 @@ pub record IsArrayTable (names : List (List ℕ)) (c : NumberedCell) : Type 0 wh
   pub counted : c.references ≡ references_in names c.entries
 
 -- A cell's names are in the table, its references exist, and an Array is one.
-pub record IsFine (names : List (List ℕ)) (size : ℕ) (c : NumberedCell) : Type 0 where
+pub record IsWellFormed (names : List (List ℕ)) (size : ℕ) (c : NumberedCell) : Type 0 where
   pub entries : AreEntries (length names) size c.entries
   pub array : is_array c.head.form ≡ true → IsArrayTable names c
 
 -- each cell's names are in the table, its references exist, and each Array is one
-abbrev pub AreFine : List (List ℕ) → ℕ → List NumberedCell → Type 0
-AreFine names size cs = AllByRecursion (IsFine names size) cs
+abbrev pub AreWellFormed : List (List ℕ) → ℕ → List NumberedCell → Type 0
+AreWellFormed names size cs = AllByRecursion (IsWellFormed names size) cs
 
 -- whether the cell at a place is a Scope
 abbrev pub scope_at : List Head → ℕ → Bool
@@ -113,7 +113,7 @@ pub record AreWords (names : List (List ℕ)) : Type 0 where
 pub record IsBase (names : List (List ℕ)) (cs : List NumberedCell) : Type 0 where
   pub table : IsTable names
   pub words : AreWords names
-  pub fine : AreFine names (length cs) cs
+  pub fine : AreWellFormed names (length cs) cs
   pub ordered : AreOrdered (heads cs)
 
 -- each count of each widget is within its limit

@@ -361,7 +361,8 @@ impl Cell {
     /// Whether an element below an index refers to a cell. For an Array whose elements are all below
     /// it, as they are where it is the length, this is one look at the last index and at a count.
     pub fn has_reference(&self, names: &PropertyNames, n: u32) -> bool
-        requires { is_array self.now.head.form ≡ true → IsIndexed names.now (found_in self.now.elements) self.now.entries
+        requires { is_array self.now.head.form ≡ true
+            → IsIndexed names.now (found_in self.now.elements) self.now.entries
             × (self.now.references ≡ references_in names.now self.now.entries) }
         ensures { result ≡ list_any (is_reference_below names.now n) self.now.entries }
     {

@@ -88,7 +88,8 @@ impl Elements {
 
     /// Takes out the last element, where it is one from an index on.
     pub(crate) fn pop_past(&mut self, n: u32) -> Option<u32>
-        ensures popped { MatchOption result ((self.new ≡ self.old) × IsNonePast n self.old) (λ k. IsPoppedPast n k self.old self.new) }
+        ensures popped { MatchOption result ((self.new ≡ self.old) × IsNonePast n self.old)
+            (λ k. IsPoppedPast n k self.old self.new) }
         ensures less { IfSome result (λ k. length self.new < length self.old) }
     {
         match &mut self.table {
@@ -154,7 +155,8 @@ impl Indices {
     }
 
     fn pop_past(&mut self, n: u32) -> Option<u32>
-        ensures popped { MatchOption result ((self.new ≡ self.old) × IsNonePast n self.old) (λ k. IsPoppedPast n k self.old self.new) }
+        ensures popped { MatchOption result ((self.new ≡ self.old) × IsNonePast n self.old)
+            (λ k. IsPoppedPast n k self.old self.new) }
         ensures less { IfSome result (λ k. length self.new < length self.old) }
     {
         match pop_far(&mut self.far, n) {

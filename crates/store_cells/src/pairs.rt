@@ -153,7 +153,8 @@ fn push_key(
     at: usize,
     keys: &mut Vec<Text>,
 ) -> Result<(), Memory>
-    ensures { OnOk result (keys.new.items ≡ keys.old.items ++ option_to_list (place_key names.now array table.now.entries at)) }
+    ensures { OnOk result (keys.new.items
+        ≡ keys.old.items ++ option_to_list (place_key names.now array table.now.entries at)) }
 {
     if let Some(name) = key_at(alloc, table, names, array, at)? {
         keys.push(name)?;
@@ -212,7 +213,8 @@ fn is_index_below(names: &PropertyNames, k: u32, n: u32) -> bool
 
 // Whether the pair at a place is an element below an index, and refers to a cell.
 fn is_reference_at(table: &PairTable<Value>, names: &PropertyNames, n: u32, place: usize) -> bool
-    ensures { result ≡ option_map_or (λ e. is_name e.0 && is_reference_below names.now n e) (slice_get table.now.entries place) false }
+    ensures { result ≡ option_map_or
+        (λ e. is_name e.0 && is_reference_below names.now n e) (slice_get table.now.entries place) false }
 {
     let Some((k, value)) = table.get_index(place) else {
         return false;
@@ -345,7 +347,8 @@ pub(crate) fn cut(
     ensures elements { elements.new ≡ noted_below n elements.old }
     ensures count { (names : List (List ℕ)) → Known (length names) (live table.old.entries)
         → IsIndexed names (found_in elements.old) (live table.old.entries)
-        → count.old ≡ references_in names (live table.old.entries) → count.new ≡ references_in names (live table.new.entries) }
+        → count.old ≡ references_in names (live table.old.entries)
+        → count.new ≡ references_in names (live table.new.entries) }
     ensures entries { (names : List (List ℕ)) → Known (length names) (live table.old.entries)
         → IsIndexed names (found_in elements.old) (live table.old.entries)
         → live table.new.entries ≡ filter (λ e. is_below n (name_at names e.0)) (live table.old.entries) }

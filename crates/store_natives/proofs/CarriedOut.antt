@@ -17,7 +17,7 @@ use Rattle.js_values.specs.Fuel.{Fuel}
 use Rattle.js_values.specs.declared.outcome.NativeOut.{NativeOut}
 use Rattle.js_values.specs.declared.outcome.NativeOut.TheVariants as native
 use Rattle.js_values.specs.declared.outcome.Plan.TheVariants as calls
-use Rattle.adsafe_object.specs.Ends.{MeetsSilent}
+use Rattle.adsafe_object.specs.Ends.{RefinesSilent}
 use Rattle.store_natives.specs.Carried.{carried}
 use Rattle.store_natives.specs.Done.{Done, Wants}
 use Rattle.store_natives.specs.declared.rooms.StoreRoom.{StoreRoom}
@@ -25,7 +25,7 @@ use Rattle.store_natives.proofs.Unheard.{at_none, it_listens, listener}
 
 module _ (w : ℕ) (old new : Cells) (had has : Fuel) (plan : ℕ → State → Plan) where
   -- handlers are asked for at no node
-  no_nodes : (kind : List ℕ) (nodes : Vec ℕ Global) (last : StoreValue) (fs : List Forest) → IsConfined fs w old → MeetsSilent w old new had has plan (native.Call (calls.Fire kind nodes last)) → nodes.items ≡ []
+  no_nodes : (kind : List ℕ) (nodes : Vec ℕ Global) (last : StoreValue) (fs : List Forest) → IsConfined fs w old → RefinesSilent w old new had has plan (native.Call (calls.Fire kind nodes last)) → nodes.items ≡ []
   no_nodes kind nodes last fs confined m = at_none (seen w new.cells) kind nodes last (record {
     depth = 0;
     plan = plan 0 (image fs (listener kind no_rest) w old);
@@ -40,10 +40,10 @@ module _ (w : ℕ) (old new : Cells) (had has : Fuel) (plan : ℕ → State → 
   })
 
   module _ (fs : List Forest) (confined : IsConfined fs w old) where
-    as_it_is : (o : NativeOut) → (IsOutOfFuel o → ⊥) → IsCarried o → MeetsSilent w old new had has plan o → Done w old new had.left has.left plan o
+    as_it_is : (o : NativeOut) → (IsOutOfFuel o → ⊥) → IsCarried o → RefinesSilent w old new had has plan o → Done w old new had.left has.left plan o
     as_it_is o paid carries m = record { answer = λ gs r node d c. (m.answer gs r node d c).other paid; fine = m.fine fs confined; carried = carries }
 
-    pub carried_done : (o : NativeOut) → MeetsSilent w old new had has plan o → IfSome (carried o) (Done w old new had.left has.left plan)
+    pub carried_done : (o : NativeOut) → RefinesSilent w old new had has plan o → IfSome (carried o) (Done w old new had.left has.left plan)
     carried_done (native.Value v) m = as_it_is (native.Value v) (λ f. f) tt m
     carried_done (native.Throw f) m = as_it_is (native.Throw f) (λ f. f) tt m
     carried_done (native.Stop c) m = as_it_is (native.Stop c) (λ f. f) tt m
@@ -60,7 +60,7 @@ module _ (w : ℕ) (old new : Cells) (had has : Fuel) (plan : ℕ → State → 
     }
 
   -- where nothing is carried out nothing has changed
-  pub none_changed : (o : NativeOut) → MeetsSilent w old new had has plan o → IfNone (carried o) ((new ≡ old) × (has ≡ had))
+  pub none_changed : (o : NativeOut) → RefinesSilent w old new had has plan o → IfNone (carried o) ((new ≡ old) × (has ≡ had))
   none_changed (native.Value v) m = tt
   none_changed (native.Throw f) m = tt
   none_changed (native.Stop c) m = tt
@@ -68,7 +68,7 @@ module _ (w : ℕ) (old new : Cells) (had has : Fuel) (plan : ℕ → State → 
   none_changed (native.Call p) m = tt
 
   -- and fuel is wanting
-  pub none_wants : (o : NativeOut) → MeetsSilent w old new had has plan o → IfNone (carried o) (Wants w old had.left plan)
+  pub none_wants : (o : NativeOut) → RefinesSilent w old new had has plan o → IfNone (carried o) (Wants w old had.left plan)
   none_wants (native.Value v) m = tt
   none_wants (native.Throw f) m = tt
   none_wants (native.Stop c) m = tt
@@ -76,7 +76,7 @@ module _ (w : ℕ) (old new : Cells) (had has : Fuel) (plan : ℕ → State → 
   none_wants (native.Call p) m = tt
 
   -- what is kept, whatever is answered
-  pub all_kept : (r : Result NativeOut Memory) → IfOk r (MeetsSilent w old new had has plan) → OnErr r ((fs : List Forest) → Kept fs w old new) → (fs : List Forest) → Kept fs w old new
+  pub all_kept : (r : Result NativeOut Memory) → IfOk r (RefinesSilent w old new had has plan) → OnErr r ((fs : List Forest) → Kept fs w old new) → (fs : List Forest) → Kept fs w old new
   all_kept (Ok o) m e = m.kept
   all_kept (Err x) m e = e
 

@@ -6,7 +6,7 @@ ghost use Rattle.widget_meaning.specs.Natives.{run_native};
 ghost use Rattle.js_image.specs.Held.{AreFine, IsConfined, IsFine, Kept};
 ghost use Rattle.js_image.specs.Image.{all_seen, seen};
 ghost use Rattle.native_common.specs.Receivers.{IsReceiver, receiver};
-ghost use Rattle.adsafe_object.specs.Ends.{MeetsSilent};
+ghost use Rattle.adsafe_object.specs.Ends.{RefinesSilent};
 ghost use Rattle.store_natives.specs.Done.{Done, Wants};
 ghost use Rattle.store_natives.specs.Rooms.{store_room};
 
@@ -68,7 +68,7 @@ fn call_in(
     requires confined { (fs : List Forest) × IsConfined fs w store.old }
     requires receiver { IsReceiver w store.old.cells this.now }
     requires args { AreFine w store.old.cells args.now }
-    ensures native { IfOk result (MeetsSilent w store.old store.new meter.old meter.new
+    ensures native { IfOk result (RefinesSilent w store.old store.new meter.old meter.new
         (run_native which (receiver w store.old.cells this.now) (all_seen w store.old.cells args.now))) }
     ensures memory { OnErr result ((fs : List Forest) → Kept fs w store.old store.new) }
 {

@@ -10,7 +10,7 @@ use Rattle.store_cells.specs.declared.cell.Head.{Head}
 use Rattle.store_cells.specs.Cells.{is_bunch, is_scope, is_array, node_in, kept_cells}
 use Rattle.store_cells.specs.Numbered.{NumberedCell}
 use Rattle.store_cells.specs.Host.{nothing_paid}
-use Rattle.store_cells.specs.Shape.{AreEntries, AreFine, AreOrdered, IsOrdered, AreRaws, AreWithin, bunch_at, scope_at, links_at, scope_in}
+use Rattle.store_cells.specs.Shape.{AreEntries, AreWellFormed, AreOrdered, IsOrdered, AreRaws, AreWithin, bunch_at, scope_at, links_at, scope_in}
 use Rattle.store_table.specs.Bare.{host_head, is_host_form}
 use Rattle.store_cells.proofs.Lists.{get_older}
 use Rattle.store_cells.proofs.Adds.{ordered_push, raws_push}
@@ -146,7 +146,7 @@ are_empty (c ∷ cs) h =
     let one = first_and (is_empty_cell c) (list_all is_empty_cell cs) h in
     (nil_is c.entries (first_and (is_nil c.entries) (not (is_array c.head.form)) one), not_is (is_array c.head.form) (second_and (is_nil c.entries) (not (is_array c.head.form)) one), are_empty cs (second_and (is_empty_cell c) (list_all is_empty_cell cs) h))
 
-pub empty_fine : (names : List (List ℕ)) (size : ℕ) (cs : List NumberedCell) → AreEmpty cs → AreFine names size cs
+pub empty_fine : (names : List (List ℕ)) (size : ℕ) (cs : List NumberedCell) → AreEmpty cs → AreWellFormed names size cs
 empty_fine names size [] h = tt
 empty_fine names size (c ∷ cs) h = (
   record {

@@ -18,7 +18,7 @@ use Rattle.store_cells.specs.Arrays.{nodes_name}
 use Rattle.store_cells.specs.Bunches.{AreCellsOf, IsBunch, bunch_cell, hidden_array, node_at}
 use Rattle.store_cells.specs.Host.{AreHost, array_prototype, bunch_prototype, host_count}
 use Rattle.store_cells.specs.Numbered.{NumberedCell, Grown, plain, name_at, cells_of, heads, own_head}
-use Rattle.store_cells.specs.Shape.{AreClosed, AreFine, AreOrdered, AreRaws, AreWithin, AreWords, GrewBunch, IsBase, IsArrayOf, IsFine, IsOrdered, IsShape, head_on, bunch_at, hidden_head, links_at, scope_at}
+use Rattle.store_cells.specs.Shape.{AreClosed, AreWellFormed, AreOrdered, AreRaws, AreWithin, AreWords, GrewBunch, IsBase, IsArrayOf, IsWellFormed, IsOrdered, IsShape, head_on, bunch_at, hidden_head, links_at, scope_at}
 use Rattle.store_cells.specs.Born.{HaveCells, bunch_cells, made, node_place, raw_place}
 use Rattle.store_cells.specs.Costs.{paid}
 use Rattle.store_cells.proofs.Lists.{by_push, get_within, count_by-push, length-changed}
@@ -70,16 +70,16 @@ module _ (old new : List (List ℕ)) (grown : Grown old new) (table : IsTable ne
     one_within : 1 < length new
     one_within = get_within new 1 nodes_name words.nodes
 
-    bunch_fine : IsFine new (length cs + 2) bunch
-    bunch_fine = subst (λ (c : NumberedCell). IsFine new (length cs + 2) c) (sym is_bunch) (record {
+    bunch_fine : IsWellFormed new (length cs + 2) bunch
+    bunch_fine = subst (λ (c : NumberedCell). IsWellFormed new (length cs + 2) c) (sym is_bunch) (record {
       entries = ((one_within, omega arith), tt);
       array = λ e. absurd (false_true e);
     })
 
-    array_fine : IsFine new (length cs + 2) array
+    array_fine : IsWellFormed new (length cs + 2) array
     array_fine = fine_array new (length cs + 2) (hidden_head (heads cs)) (length (map value.Ref refs)) (map value.Ref refs) array table words few few (under_elements (length cs + 2) refs under) is_array
 
-    all_fine : AreFine new (length cs + 2) ((cs ++ bunch ∷ []) ++ array ∷ [])
+    all_fine : AreWellFormed new (length cs + 2) ((cs ++ bunch ∷ []) ++ array ∷ [])
     all_fine = fine_push new (length cs + 2) (cs ++ bunch ∷ []) array (fine_push new (length cs + 2) cs bunch (all_fine_stay old new grown.longer grown.kept (length cs) (length cs + 2) cs (omega arith) base.fine) bunch_fine) array_fine
 
     heads_length : length (heads cs) ≡ length cs
@@ -119,7 +119,7 @@ module _ (old new : List (List ℕ)) (grown : Grown old new) (table : IsTable ne
       base = subst (IsBase new) (sym twice) (record {
         table = table;
         words = words;
-        fine = subst (λ n. AreFine new n ((cs ++ bunch ∷ []) ++ array ∷ [])) size all_fine;
+        fine = subst (λ n. AreWellFormed new n ((cs ++ bunch ∷ []) ++ array ∷ [])) size all_fine;
         ordered = subst AreOrdered (sym both_heads) (ordered_push (heads cs ++ bunch_head ∷ []) (hidden_head (heads cs)) (ordered_push (heads cs) bunch_head base.ordered (subst (λ n. IsOrdered (heads cs) n bunch_head) (sym heads_length) ordered)) (proto_links (omega (arith, short)) (omega (arith, short))));
       });
       heads = ap heads twice ∙ both_heads ∙ sym (push_twice (heads cs) bunch_head (hidden_head (heads cs)));

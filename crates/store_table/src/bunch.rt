@@ -120,7 +120,8 @@ fn hidden_head(cells: &Vec<Cell>) -> Head
 
 // A Bunch, by the place of its hidden Array.
 fn bunch(maker: Maker, head: Head, array: CellId) -> Result<Cell, Memory>
-    ensures { IfOk result (λ c. c ≡ record { head = head; elements = []; references = 0; entries = (1, value.Ref array) ∷ [] }) }
+    ensures { IfOk result (λ c. c
+        ≡ record { head = head; elements = []; references = 0; entries = (1, value.Ref array) ∷ [] }) }
 {
     let mut cell = Cell::new(maker, head);
     cell.write(NODES, Value::Ref(array), 0)?;

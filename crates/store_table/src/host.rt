@@ -264,7 +264,8 @@ fn give_all(
     ensures base { OnOk result (IsBase names.new cells.new.items) }
     ensures heads { OnOk result (heads cells.new.items ≡ heads cells.old.items) }
     ensures done { OnOk result (cells_of names.new cells.new.items
-        ≡ with_gifts (native_gifts rows.now) (references_as_gifts references.now) (cells_of names.old cells.old.items)) }
+        ≡ with_gifts (native_gifts rows.now) (references_as_gifts references.now)
+        (cells_of names.old cells.old.items)) }
 {
     give_natives(alloc, names, cells, rows)?;
     let undefined = Value::Undefined;

@@ -155,7 +155,8 @@ fn list_with_own(
     ensures grown { Grown table.old table.new }
     ensures table { IsTable table.new }
     ensures known { IfOk result (λ all. Known (length table.new) all.items) }
-    ensures done { IfOk result (λ all. named table.new all.items ≡ named table.old list.items ++ own_value own.now func.now) }
+    ensures done { IfOk result
+        (λ all. named table.new all.items ≡ named table.old list.items ++ own_value own.now func.now) }
 {
     let mut list = list;
     match own {

@@ -11,7 +11,7 @@ ghost use Rattle.store_cells.specs.Born.{filled_cell, with_pair};
 ghost use Rattle.store_cells.specs.Cells.{is_array};
 ghost use Rattle.store_cells.specs.Lists.{changed};
 ghost use Rattle.store_cells.specs.Numbered.{Grown, IsNumberOf, by_plan, found_in, heads, numbered_along, numbered_has_at, numbered_holder, numbered_two, numbered_written, plain, references_in};
-ghost use Rattle.store_cells.specs.Shape.{Added, AreRefs, Grew, IsBase, IsFine, IsIndexed, IsOrdered, IsPlanned, IsRefWithin, IsTakeable, IsVariable, Kept, Known, Wrote, head_on, links_at, scope_head};
+ghost use Rattle.store_cells.specs.Shape.{Added, AreRefs, Grew, IsBase, IsWellFormed, IsIndexed, IsOrdered, IsPlanned, IsRefWithin, IsTakeable, IsVariable, Kept, Known, Wrote, head_on, links_at, scope_head};
 
 use code_units::{Memory, Owner, Text, index_of};
 use indexmap::IndexMap;
@@ -284,7 +284,8 @@ fn own_index(
     requires base { IsBase names.now cells.old.items }
     requires value { IsRefWithin (length cells.old.items) value }
     requires plan { IsPlanned cells.old.items i (decimal at) value (Write.Own end) }
-    ensures ok { OnOk result (Wrote names.now cells.old.items names.now cells.new.items i (written (decimal at) value)) }
+    ensures ok { OnOk result (Wrote names.now cells.old.items names.now cells.new.items i
+        (written (decimal at) value)) }
     ensures err { OnErr result (Kept names.now cells.old.items names.now cells.new.items) }
 {
     // The contract alone speaks of the index.
@@ -308,7 +309,8 @@ fn longer_index(
     requires base { IsBase names.now cells.old.items }
     requires value { IsRefWithin (length cells.old.items) value }
     requires plan { IsPlanned cells.old.items i (decimal at) value (Write.Longer len) }
-    ensures ok { OnOk result (Wrote names.now cells.old.items names.now cells.new.items i (by_plan (Write.Longer len) (decimal at) value)) }
+    ensures ok { OnOk result (Wrote names.now cells.old.items names.now cells.new.items i
+        (by_plan (Write.Longer len) (decimal at) value)) }
     ensures err { OnErr result (Kept names.now cells.old.items names.now cells.new.items) }
 {
     let _at = at;
@@ -332,7 +334,8 @@ pub fn write_index(
     requires base { IsBase names.now cells.old.items }
     requires value { IsRefWithin (length cells.old.items) value }
     requires plan { IsPlanned cells.old.items i (decimal at) value plan }
-    ensures ok { OnOk result (Wrote names.now cells.old.items names.now cells.new.items i (by_plan plan (decimal at) value)) }
+    ensures ok { OnOk result (Wrote names.now cells.old.items names.now cells.new.items i
+        (by_plan plan (decimal at) value)) }
     ensures err { OnErr result (Kept names.now cells.old.items names.now cells.new.items) }
 {
     match plan {
@@ -402,7 +405,7 @@ pub fn push(cells: &mut Vec<Cell>, cell: Cell) -> Result<CellId, Memory>
 /// Adds a cell.
 pub fn add(names: &PropertyNames, cells: &mut Vec<Cell>, cell: Cell) -> Result<CellId, Memory>
     requires base { IsBase names.now cells.old.items }
-    requires fine { IsFine names.now (length cells.old.items + 1) cell }
+    requires fine { IsWellFormed names.now (length cells.old.items + 1) cell }
     requires ordered { IsOrdered (heads cells.old.items) (length cells.old.items) cell.head }
     ensures ok { IfOk result (λ id. Added names.now cells.old.items names.now cells.new.items cell id) }
     ensures err { OnErr result (cells.new.items ≡ cells.old.items) }
@@ -456,9 +459,11 @@ pub fn write_new(
     ensures table { IsTable names.new }
     ensures known { OnOk result (Known (length names.new) cell.new.entries) }
     ensures head { OnOk result (cell.new.head ≡ cell.old.head) }
-    ensures indexed { OnOk result (end ≡ end_of name.now → IsIndexed names.old (found_in cell.old.elements) cell.old.entries
+    ensures indexed { OnOk result (end ≡ end_of name.now
+        → IsIndexed names.old (found_in cell.old.elements) cell.old.entries
         → IsIndexed names.new (found_in cell.new.elements) cell.new.entries) }
-    ensures counted { OnOk result (end ≡ end_of name.now → cell.old.references ≡ references_in names.old cell.old.entries
+    ensures counted { OnOk result (end ≡ end_of name.now
+        → cell.old.references ≡ references_in names.old cell.old.entries
         → cell.new.references ≡ references_in names.new cell.new.entries) }
     ensures done { OnOk result (plain names.new cell.new ≡ written name.now value (plain names.old cell.old)) }
 {

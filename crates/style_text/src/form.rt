@@ -43,7 +43,8 @@ fn behind_pair<'t>(
     property: &[u16],
     value: &[u16],
 ) -> Option<&'t [u16]>
-    ensures { (text front : List ℕ) → IsBehind front text rest.entry → IsBehind (front ++ separated first (property.now, value.now)) text result }
+    ensures { (text front : List ℕ) → IsBehind front text rest.entry
+        → IsBehind (front ++ separated first (property.now, value.now)) text result }
 {
     let rest = behind_next(rest, separator(first));
     let rest = behind_next(rest, property);

@@ -1,6 +1,7 @@
 //! Inline styles: texts of `property: value` between semicolons.
 //!
-//! `specs/Styles.antt` says which units spell which pairs. The properties are a fixed list, a value is short and plain, and no value leads out of the page.
+//! `specs/Styles.antt` says which units spell which pairs. The properties are a fixed list, a value is short
+//! and plain, and no value leads out of the page.
 #![tactic(auto)]
 
 mod form;

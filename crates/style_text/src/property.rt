@@ -106,7 +106,8 @@ pub fn none_used() -> Used
 // Whether the units are a word of a table that has no mark.
 fn free_in(table: &[&[u8]], marks: &[bool], units: &[u16]) -> bool
     requires { length marks.now ≡ length table.now }
-    ensures { (used : List ℕ → Bool) → marks.now ≡ map (λ word. used word.now) table.now → result ≡ list_any (λ word. bytes_eq units.now word.now && not (used word.now)) table.now }
+    ensures { (used : List ℕ → Bool) → marks.now ≡ map (λ word. used word.now) table.now
+        → result ≡ list_any (λ word. bytes_eq units.now word.now && not (used word.now)) table.now }
 {
     'words: for (i, word) in table.iter().enumerate() {
         if spells(units, word) && !marks[i] {
@@ -127,7 +128,8 @@ pub fn is_free(used: &Used, units: &[u16]) -> bool
 // Whether a word of a table that has no mark begins with the units.
 fn fits_in(table: &[&[u8]], marks: &[bool], front: &[u16]) -> bool
     requires { length marks.now ≡ length table.now }
-    ensures { (used : List ℕ → Bool) → marks.now ≡ map (λ word. used word.now) table.now → result ≡ list_any (λ word. begins_with word.now front.now && not (used word.now)) table.now }
+    ensures { (used : List ℕ → Bool) → marks.now ≡ map (λ word. used word.now) table.now
+        → result ≡ list_any (λ word. begins_with word.now front.now && not (used word.now)) table.now }
 {
     'words: for (i, word) in table.iter().enumerate() {
         if begins_with(word, front) && !marks[i] {
@@ -148,7 +150,8 @@ pub fn fits(used: &Used, front: &[u16]) -> bool
 // Marks the units where they stand in a table.
 fn mark_in(table: &[&[u8]], marks: &mut [bool], units: &[u16])
     requires { length marks.old ≡ length table.now }
-    ensures { (used : List ℕ → Bool) → marks.old ≡ map (λ word. used word.now) table.now → marks.new ≡ map (λ word. used word.now || bytes_eq units.now word.now) table.now }
+    ensures { (used : List ℕ → Bool) → marks.old ≡ map (λ word. used word.now) table.now
+        → marks.new ≡ map (λ word. used word.now || bytes_eq units.now word.now) table.now }
 {
     'words: for (i, word) in table.iter().enumerate() {
         marks[i] |= spells(units, word);
@@ -158,7 +161,8 @@ fn mark_in(table: &[&[u8]], marks: &mut [bool], units: &[u16])
 /// The property stands in one more pair.
 #[tactic(auto, unfolding(crate::specs::Used::marks_of, crate::specs::Styles::properties))]
 pub fn mark(used: &mut Used, units: &[u16])
-    ensures { (pairs : List Pair) (value : List ℕ) → used.old ≡ marks_of pairs → used.new ≡ marks_of (pairs ++ (units.now, value) ∷ []) }
+    ensures { (pairs : List Pair) (value : List ℕ) → used.old ≡ marks_of pairs
+        → used.new ≡ marks_of (pairs ++ (units.now, value) ∷ []) }
 {
     mark_in(&PROPERTIES, used, units);
 }

@@ -50,8 +50,10 @@ fn property_end(units: &[u16], at: usize, used: &Used) -> usize
     requires { at ≤ length units.now }
     ensures order { at ≤ result }
     ensures inside { result ≤ length units.now }
-    ensures read { (pairs : List Pair) → used.now ≡ marks_of pairs → goes units.now (Name pairs []) at ≡ goes units.now (Name pairs (slice_range units.now at result)) result }
-    ensures all { (pairs : List Pair) → used.now ≡ marks_of pairs → result < length units.now → fits pairs (slice_range units.now at (result + 1)) ≡ false }
+    ensures read { (pairs : List Pair) → used.now ≡ marks_of pairs
+        → goes units.now (Name pairs []) at ≡ goes units.now (Name pairs (slice_range units.now at result)) result }
+    ensures all { (pairs : List Pair) → used.now ≡ marks_of pairs → result < length units.now
+        → fits pairs (slice_range units.now at (result + 1)) ≡ false }
 {
     let mut end = at;
     'property: while end < units.len() {
@@ -142,7 +144,8 @@ fn text_of(alloc: Global, units: &[u16], from: usize, to: usize) -> Result<Text,
 // The pairs that the units spell.
 fn read_units(alloc: Global, units: &[u16]) -> Result<Vec<(Text, Text)>, StyleFault>
     ensures style { IfOk result (λ pairs. StyleSpells units.now pairs.items) }
-    ensures only { (pairs : List Pair) → StyleSpells units.now pairs → MatchResult result (λ list. list.items ≡ pairs) (λ e. e ≡ fault.Memory) }
+    ensures only { (pairs : List Pair) → StyleSpells units.now pairs
+        → MatchResult result (λ list. list.items ≡ pairs) (λ e. e ≡ fault.Memory) }
     ensures place { IfErr result (λ e. IsStyleFault units.now e) }
 {
     let mut pairs = Vec::new(alloc);
@@ -168,7 +171,8 @@ pub fn read_style(alloc: Global, text: &Text) -> Result<Vec<(Text, Text)>, Style
     // The pairs are those that the text spells.
     ensures style { IfOk result (λ pairs. StyleSpells text.now pairs.items) }
     // Where it spells pairs, they are read, unless memory runs out.
-    ensures only { (pairs : List Pair) → StyleSpells text.now pairs → MatchResult result (λ list. list.items ≡ pairs) (λ e. e ≡ fault.Memory) }
+    ensures only { (pairs : List Pair) → StyleSpells text.now pairs
+        → MatchResult result (λ list. list.items ≡ pairs) (λ e. e ≡ fault.Memory) }
     // The place of a refusal is exact.
     ensures place { IfErr result (λ e. IsStyleFault text.now e) }
 {

@@ -22,7 +22,7 @@ use Rattle.permitted_table.specs.declared.native.MathNative.{MathNative}
 use Rattle.permitted_table.specs.declared.native.MathNative.TheVariants.{Abs}
 use Rattle.js_image.specs.Image.{image, meant, seen}
 use Rattle.js_values.specs.declared.outcome.NativeOut.TheVariants as native
-use Rattle.native_common.specs.Meets.{Ends}
+use Rattle.native_common.specs.Refines.{Ends}
 use Rattle.native_common.proofs.Meeting.{ends_here}
 use Rattle.std.proofs.Common.{sym}
 use Rattle.std.specs.Prelude.{codes, ◌||◌}

@@ -6,7 +6,7 @@ ghost use Rattle.widget_meaning.specs.Natives.{run_native};
 ghost use Rattle.widget_meaning.specs.TextNatives as means;
 ghost use Rattle.js_image.specs.Image.{all_seen};
 ghost use Rattle.js_image.specs.Held.{AreFine, Kept};
-ghost use Rattle.native_common.specs.Meets.{Meets};
+ghost use Rattle.native_common.specs.Refines.{Refines};
 ghost use Rattle.native_common.specs.Receivers.{IsReceiver, receiver};
 ghost use Rattle.text_methods.specs.Part.{is_part};
 
@@ -40,7 +40,7 @@ pub fn call(
     requires widget { IsWidget owner }
     requires receiver { IsReceiver (number_in owner) store.old.cells this.now }
     requires args { AreFine (number_in owner) store.old.cells args.now }
-    ensures native { IfOk result (λ o. Meets (number_in owner) store.old store.new meter.old meter.new
+    ensures native { IfOk result (λ o. Refines (number_in owner) store.old store.new meter.old meter.new
         (run_native which (receiver (number_in owner) store.old.cells this.now)
         (all_seen (number_in owner) store.old.cells args.now)) o) }
     ensures memory { OnErr result ((fs : List Forest) → Kept fs (number_in owner) store.old store.new) }
@@ -65,7 +65,7 @@ fn call_of(
     requires widget { w < 32 }
     requires receiver { IsReceiver w store.old.cells this.now }
     requires args { AreFine w store.old.cells args.now }
-    ensures native { IfOk result (λ o. Meets w store.old store.new meter.old meter.new
+    ensures native { IfOk result (λ o. Refines w store.old store.new meter.old meter.new
         (run_native which (receiver w store.old.cells this.now) (all_seen w store.old.cells args.now)) o) }
     ensures memory { OnErr result ((fs : List Forest) → Kept fs w store.old store.new) }
 {
@@ -89,8 +89,9 @@ fn text_native(
     w: u32,
 ) -> Result<NativeOut, Memory>
     requires widget { w < 32 }
-    ensures native { IfOk result (λ o. Meets w store.old store.new meter.old meter.new
-        (λ d s. means.text_native which (receiver w store.old.cells this.now) (all_seen w store.old.cells args.now) s) o) }
+    ensures native { IfOk result (λ o. Refines w store.old store.new meter.old meter.new
+        (λ d s. means.text_native which (receiver w store.old.cells this.now)
+        (all_seen w store.old.cells args.now) s) o) }
     ensures memory { OnErr result ((fs : List Forest) → Kept fs w store.old store.new) }
 {
     match this {
@@ -110,7 +111,7 @@ fn text_method(
     w: u32,
 ) -> Result<NativeOut, Memory>
     requires widget { w < 32 }
-    ensures native { IfOk result (λ o. Meets w store.old store.new meter.old meter.new
+    ensures native { IfOk result (λ o. Refines w store.old store.new meter.old meter.new
         (λ d s. means.text_method which t.now (all_seen w store.old.cells args.now) s) o) }
     ensures memory { OnErr result ((fs : List Forest) → Kept fs w store.old store.new) }
 {

@@ -6,7 +6,7 @@ ghost use Rattle.widget_meaning.specs.TextNatives as means;
 ghost use Rattle.js_image.specs.Image.{seen};
 ghost use Rattle.js_image.specs.Held.{Kept};
 ghost use Rattle.js_values.specs.Operands.{plain};
-ghost use Rattle.native_common.specs.Meets.{Meets};
+ghost use Rattle.native_common.specs.Refines.{Refines};
 ghost use Rattle.native_common.specs.Numbers.{IsSmall};
 ghost use Rattle.text_methods.specs.Choices.{cut, part};
 
@@ -29,7 +29,7 @@ pub(crate) fn char_at(
     w: u32,
 ) -> Result<NativeOut, Memory>
     requires widget { w < 32 }
-    ensures native { IfOk result (λ o. Meets w store.old store.new meter.old meter.new
+    ensures native { IfOk result (λ o. Refines w store.old store.new meter.old meter.new
         (λ d s. means.char_at t.now (seen w store.old.cells i.now) s) o) }
     ensures memory { OnErr result ((fs : List Forest) → Kept fs w store.old store.new) }
 {
@@ -56,7 +56,7 @@ fn unit_at(units: &[u16], z: i64) -> &[u16]
 
 /// `charCodeAt(i)`: the unit at a position as a number, NaN outside.
 pub(crate) fn char_code_at(t: &Text, i: &Value, meter: &mut Meter) -> NativeOut
-    ensures { (w : ℕ) (s : Cells) → Meets w s s meter.old meter.new
+    ensures { (w : ℕ) (s : Cells) → Refines w s s meter.old meter.new
         (λ d x. means.char_code_at t.now (seen w s.cells i.now) x) result }
 {
     if is_object(i) {
@@ -96,7 +96,7 @@ pub(crate) fn cut(
     w: u32,
 ) -> Result<NativeOut, Memory>
     requires widget { w < 32 }
-    ensures native { IfOk result (λ o. Meets w store.old store.new meter.old meter.new
+    ensures native { IfOk result (λ o. Refines w store.old store.new meter.old meter.new
         (λ d s. cut slice t.now (seen w store.old.cells a.now) (seen w store.old.cells b.now) s) o) }
     ensures memory { OnErr result ((fs : List Forest) → Kept fs w store.old store.new) }
 {

@@ -7,7 +7,7 @@ ghost use Rattle.widget_meaning.specs.Values.{to_text};
 ghost use Rattle.widget_meaning.specs.TextNatives as means;
 ghost use Rattle.js_image.specs.Image.{all_seen, seen};
 ghost use Rattle.js_image.specs.Held.{Kept};
-ghost use Rattle.native_common.specs.Meets.{Meets};
+ghost use Rattle.native_common.specs.Refines.{Refines};
 ghost use Rattle.native_common.specs.Numbers.{counted};
 
 use code_units::{Memory, Text};
@@ -27,7 +27,7 @@ pub(crate) fn concat(
     w: u32,
 ) -> Result<NativeOut, Memory>
     requires widget { w < 32 }
-    ensures native { IfOk result (λ o. Meets w store.old store.new meter.old meter.new
+    ensures native { IfOk result (λ o. Refines w store.old store.new meter.old meter.new
         (λ d s. means.text_concat t.now (all_seen w store.old.cells args.now) s) o) }
     ensures memory { OnErr result ((fs : List Forest) → Kept fs w store.old store.new) }
 {

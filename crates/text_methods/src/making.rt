@@ -6,7 +6,7 @@ ghost use Rattle.js_tree.specs.Forest.{Forest};
 ghost use Rattle.widget_meaning.specs.TextNatives as means;
 ghost use Rattle.widget_meaning.specs.NativeForms as forms;
 ghost use Rattle.js_image.specs.Held.{Kept};
-ghost use Rattle.native_common.specs.Meets.{Meets};
+ghost use Rattle.native_common.specs.Refines.{Refines};
 
 use code_units::{Memory, Text};
 use js_values::{Meter, NativeOut};
@@ -24,7 +24,7 @@ pub(crate) fn make_of(
     w: u32,
 ) -> Result<NativeOut, Memory>
     requires widget { w < 32 }
-    ensures native { IfOk result (λ o. Meets w store.old store.new meter.old meter.new
+    ensures native { IfOk result (λ o. Refines w store.old store.new meter.old meter.new
         (λ d s. forms.give_text (length t.now) (means.made_of which t.now) s) o) }
     ensures memory { OnErr result ((fs : List Forest) → Kept fs w store.old store.new) }
 {

@@ -10,7 +10,7 @@ ghost use Rattle.store_cells.specs.Cells.{Cells};
 ghost use Rattle.js_image.specs.Image.{all_seen, seen};
 ghost use Rattle.js_image.specs.Held.{Kept};
 ghost use Rattle.js_values.specs.Operands.{plain};
-ghost use Rattle.native_common.specs.Meets.{Ends, Meets};
+ghost use Rattle.native_common.specs.Refines.{Ends, Refines};
 ghost use Rattle.native_common.specs.Receivers.{IsReceiver, receiver};
 ghost use Rattle.text_methods.specs.Part.{is_here};
 
@@ -37,7 +37,7 @@ pub(crate) fn prototype_native(
     requires widget { w < 32 }
     requires receiver { IsReceiver w store.old.cells this.now }
     requires here { is_here which ≡ true }
-    ensures native { IfOk result (λ o. Meets w store.old store.new meter.old meter.new
+    ensures native { IfOk result (λ o. Refines w store.old store.new meter.old meter.new
         (means.prototype_native which (receiver w store.old.cells this.now)
         (all_seen w store.old.cells args.now)) o) }
     ensures memory { OnErr result ((fs : List Forest) → Kept fs w store.old store.new) }
@@ -124,7 +124,7 @@ fn number_to_string(
     w: u32,
 ) -> Result<NativeOut, Memory>
     requires widget { w < 32 }
-    ensures native { IfOk result (λ o. Meets w store.old store.new meter.old meter.new
+    ensures native { IfOk result (λ o. Refines w store.old store.new meter.old meter.new
         (λ d s. means.number_to_string (receiver w store.old.cells this.now) (seen w store.old.cells radix.now) s) o) }
     ensures memory { OnErr result ((fs : List Forest) → Kept fs w store.old store.new) }
 {
@@ -144,7 +144,7 @@ fn in_radix(
     w: u32,
 ) -> Result<NativeOut, Memory>
     requires widget { w < 32 }
-    ensures native { IfOk result (λ o. Meets w store.old store.new meter.old meter.new
+    ensures native { IfOk result (λ o. Refines w store.old store.new meter.old meter.new
         (λ d s. means.in_radix (plain (Value.Num n)) (seen w store.old.cells radix.now) s) o) }
     ensures memory { OnErr result ((fs : List Forest) → Kept fs w store.old store.new) }
 {

@@ -4,7 +4,7 @@ ghost use Rattle.store_cells.specs.Cells.{Cells};
 ghost use Rattle.widget_meaning.specs.TextNatives as means;
 ghost use Rattle.js_image.specs.Image.{seen};
 ghost use Rattle.js_values.specs.Operands.{plain};
-ghost use Rattle.native_common.specs.Meets.{Meets};
+ghost use Rattle.native_common.specs.Refines.{Refines};
 ghost use Rattle.native_common.specs.Numbers.{IsSmall};
 
 use crate::cutting::end_of;
@@ -23,7 +23,7 @@ pub(crate) fn index_of(
     from: &Value,
     meter: &mut Meter,
 ) -> Result<NativeOut, Memory>
-    ensures { IfOk result (λ o. (w : ℕ) (s : Cells) → Meets w s s meter.old meter.new
+    ensures { IfOk result (λ o. (w : ℕ) (s : Cells) → Refines w s s meter.old meter.new
         (λ d r. means.index_of t.now (seen w s.cells x.now) (seen w s.cells from.now) r) o) }
 {
     if either_object(x, from) {
@@ -48,7 +48,7 @@ pub(crate) fn last_index_of(
     from: &Value,
     meter: &mut Meter,
 ) -> Result<NativeOut, Memory>
-    ensures { IfOk result (λ o. (w : ℕ) (s : Cells) → Meets w s s meter.old meter.new
+    ensures { IfOk result (λ o. (w : ℕ) (s : Cells) → Refines w s s meter.old meter.new
         (λ d r. means.last_index_of t.now (seen w s.cells x.now) (seen w s.cells from.now) r) o) }
 {
     if either_object(x, from) {

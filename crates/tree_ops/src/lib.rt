@@ -1,4 +1,5 @@
-//! Trees whose nodes have numbers, and what is done to them: nodes are taken out, put in, copied and given other labels.
+//! Trees whose nodes have numbers, and what is done to them: nodes are taken out, put in, copied and given
+//! other labels.
 //!
 //! `specs/Trees.antt` and `specs/Labels.antt` have the definitions, on which the page and the meaning of widgets stand.
 //! The functions do nothing: their contracts are laws that say of the definitions what they mean.
@@ -18,14 +19,16 @@ pub fn has_its_numbers()
 
 /// Without a node just the numbers are left that are not in its tree, in their order.
 pub fn without_leaves_others()
-    ensures { (n : ℕ) (ts : Trees ℕ) → IsDistinct nat_eq (numbers ts) → numbers (without n ts) ≡ filter (λ m. not (has m (subtree n ts))) (numbers ts) }
+    ensures { (n : ℕ) (ts : Trees ℕ) → IsDistinct nat_eq (numbers ts)
+        → numbers (without n ts) ≡ filter (λ m. not (has m (subtree n ts))) (numbers ts) }
 {}
 
 /// Trees and what is grafted on them at a node have the numbers of both, where the node is there.
 /// What is put before no number comes behind the last.
 pub fn grafted_has_both()
     ensures last { (us ts : Trees ℕ) → put_before None us ts ≡ beside ts us }
-    ensures both { (t : ℕ) (s : Option ℕ) (us ts : Trees ℕ) (n : ℕ) → has n (grafted t s us ts) ≡ (has n ts || (has t ts && has n us)) }
+    ensures both { (t : ℕ) (s : Option ℕ) (us ts : Trees ℕ) (n : ℕ)
+        → has n (grafted t s us ts) ≡ (has n ts || (has t ts && has n us)) }
 {}
 
 /// Where a node is not there, nothing is taken, put in or given another label.
@@ -50,6 +53,11 @@ pub fn numbers_stay()
 /// An attribute that is set has its value, and the others have theirs. A name that is there keeps
 /// its place, and a new one stands last.
 pub fn attribute_is_set()
-    ensures value { (name other : List ℕ) (value : Option (List ℕ)) (l : Label) → is_text l ≡ false → attribute_of other (with_attribute name value l) ≡ (if bytes_eq name other then value else attribute_of other l) }
-    ensures place { (name value : List ℕ) (attributes : List Attribute) → map (λ a. a.0) (with_value name value attributes) ≡ (if is_some (value_of name attributes) then map (λ a. a.0) attributes else map (λ a. a.0) attributes ++ name ∷ []) }
+    ensures value { (name other : List ℕ) (value : Option (List ℕ)) (l : Label) → is_text l ≡ false
+        → attribute_of other (with_attribute name value l)
+        ≡ (if bytes_eq name other then value else attribute_of other l) }
+    ensures place { (name value : List ℕ) (attributes : List Attribute)
+        → map (λ a. a.0) (with_value name value attributes)
+        ≡ (if is_some (value_of name attributes) then map (λ a. a.0) attributes else map
+        (λ a. a.0) attributes ++ name ∷ []) }
 {}

@@ -15,9 +15,9 @@ use Rattle.js_values.specs.declared.outcome.NativeOut.{NativeOut}
 use Rattle.js_values.specs.declared.outcome.NativeOut.TheVariants as native
 use Rattle.js_values.specs.declared.outcome.Plan.TheVariants as calls
 use Rattle.native_image.specs.Image.{Outside, Parts, beside, dispatches_of}
-use Rattle.native_image.specs.Meets.{FiresAtOwn}
+use Rattle.native_image.specs.Refines.{FiresAtOwn}
 use Rattle.native_image.proofs.Meeting.{no_outside}
-use Rattle.natives.specs.Meets.{MeetsWhole, plan_of}
+use Rattle.natives.specs.Refines.{RefinesWhole, plan_of}
 use Rattle.natives.specs.Reach.{Reach, reach, state}
 use Rattle.turn_returns.specs.Turns.{bubbled_of, outside_of}
 use Rattle.turn_returns.specs.declared.turn.Shared.{Shared}
@@ -64,7 +64,7 @@ put_back x h v b before after e = λ j. record (state_in x h v after) { dispatch
 -- the call is carried out in the turn
 pub carried : (old new : Shared) (v u : Widget) (before after : List Bool) (b : Option Bool) (had has : Fuel) (call : NativeCall) (o : NativeOut)
     → FineWidget old v → u.number ≡ v.number → new.codes ≡ old.codes → reverse after ≡ dispatches_of b (drop 1 (reverse before))
-    → MeetsWhole v.number (reach_in old v (bubbled_of before)) (reach_in new u b) had has (plan_of v.number old.store.cells call) o
+    → RefinesWhole v.number (reach_in old v (bubbled_of before)) (reach_in new u b) had has (plan_of v.number old.store.cells call) o
     → IsPerformed old new v u before after had has call o
 carried old new v u before after b had has call o fine number_same codes put m = record {
   answer = λ x d.

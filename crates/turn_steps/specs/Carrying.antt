@@ -14,8 +14,8 @@ use Rattle.js_values.specs.declared.outcome.NativeOut.TheVariants as native
 use Rattle.js_values.specs.declared.outcome.Plan.TheVariants as calls
 use Rattle.js_flow.specs.declared.job.NativeCall.{NativeCall}
 use Rattle.native_image.specs.Image.{Outside, beside}
-use Rattle.native_image.specs.Meets.{FiresAtOwn}
-use Rattle.natives.specs.Meets.{plan_of}
+use Rattle.native_image.specs.Refines.{FiresAtOwn}
+use Rattle.natives.specs.Refines.{plan_of}
 use Rattle.turn_dispatch.specs.declared.level.Doing.{Doing}
 use Rattle.turn_dispatch.specs.Held.{FineDoing}
 use Rattle.turn_dispatch.specs.Levels.{levels_rest}

@@ -5,7 +5,7 @@ ghost use Rattle.js_steps.specs.Ending.{Awaits};
 ghost use Rattle.js_flow.specs.Fine.{FineFrames, FineNative};
 ghost use Rattle.js_values.specs.Answers.{IsCarried, IsFineOut};
 ghost use Rattle.native_image.specs.Image.{beside, dispatches_of};
-ghost use Rattle.native_image.specs.Meets.{FiresAtOwn};
+ghost use Rattle.native_image.specs.Refines.{FiresAtOwn};
 ghost use Rattle.native_image.specs.Sound.{KeepsAll};
 ghost use Rattle.js_values.specs.declared.outcome.NativeOut.TheVariants as native_out;
 ghost use Rattle.js_values.specs.declared.outcome.Plan.TheVariants as native_calls;

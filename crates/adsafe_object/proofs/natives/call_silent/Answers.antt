@@ -5,7 +5,7 @@ use Rattle.permitted_table.specs.declared.native.NativeId.{NativeId}
 use Rattle.widget_meaning.specs.Natives.{run_native}
 use Rattle.js_image.specs.Image.{all_seen}
 use Rattle.native_common.specs.Receivers.{receiver}
-use Rattle.adsafe_object.specs.Ends.{MeetsSilent}
+use Rattle.adsafe_object.specs.Ends.{RefinesSilent}
 use Rattle.adsafe_object.specs.Part.{keeps_note}
 use Rattle.adsafe_object.proofs.Exits.{confined_run}
 use Rattle.adsafe_object.proofs.Lists.{has_own_is}
@@ -20,7 +20,7 @@ returns-in-Adsafe-clause-native c =
     let s = c.args.store.now in
     let n = c.silent.new in
     let this = receiver w s.cells c.args.this.now in
-    subst (λ (k : NativeId). IfOk c.silent.result (λ o. MeetsSilent w s n.store c.args.meter.now n.meter (run_native k this (all_seen w s.cells c.args.args.now)) o))
+    subst (λ (k : NativeId). IfOk c.silent.result (λ o. RefinesSilent w s n.store c.args.meter.now n.meter (run_native k this (all_seen w s.cells c.args.args.now)) o))
     (sym c.in-Adsafe.is) (c.silent.ensures.native this)
 
 pub returns-in-Prototype-clause-native : goal.returns-in-Prototype-clause-native

@@ -5,7 +5,7 @@ use Rattle.permitted_table.specs.declared.native.NativeId.{NativeId}
 use Rattle.widget_meaning.specs.Natives.{run_native}
 use Rattle.js_image.specs.Image.{all_seen}
 use Rattle.native_common.specs.Receivers.{receiver}
-use Rattle.adsafe_object.specs.Ends.{MeetsNoted}
+use Rattle.adsafe_object.specs.Ends.{RefinesNoted}
 use Rattle.adsafe_object.proofs.Exits.{silent_keeps}
 use Rattle.adsafe_object.proofs.Lists.{part_else}
 use Rattle.adsafe_object.proofs.Timing.{unasked}
@@ -17,7 +17,7 @@ returns-in-Adsafe-clause-native c =
     let s = c.args.store.now in
     let n = c.of_adsafe.new in
     let this = receiver w s.cells c.args.this.now in
-    subst (λ (k : NativeId). IfOk c.of_adsafe.result (λ o. MeetsNoted w c.args.waiting s n.store c.args.meter.now n.meter (record { log = c.args.log.now.items; posts = c.args.posts.now.items; asked = None }) (record { log = n.log.items; posts = n.posts.items; asked = n.asked }) (run_native k this (all_seen w s.cells c.args.args.now)) o))
+    subst (λ (k : NativeId). IfOk c.of_adsafe.result (λ o. RefinesNoted w c.args.waiting s n.store c.args.meter.now n.meter (record { log = c.args.log.now.items; posts = c.args.posts.now.items; asked = None }) (record { log = n.log.items; posts = n.posts.items; asked = n.asked }) (run_native k this (all_seen w s.cells c.args.args.now)) o))
     (sym c.in-Adsafe.is) (c.of_adsafe.ensures.native this)
 
 pub call_silent-requires-clause-silent : goal.call_silent-requires-clause-silent

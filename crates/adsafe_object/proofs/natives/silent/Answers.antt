@@ -1,8 +1,8 @@
 use Rattle.std.proofs.Common.{refl, sym, subst}
 use Rattle.std.proofs.lemmas.Result.{IfOk-weaker}
 use Rattle.js_image.specs.Held.{IsFine}
-use Rattle.native_common.proofs.Meeting.{meets_free}
-use Rattle.adsafe_object.proofs.Exits.{confined_run, meets_run, text_run}
+use Rattle.native_common.proofs.Meeting.{refines_free}
+use Rattle.adsafe_object.proofs.Exits.{confined_run, refines_run, text_run}
 use Rattle.adsafe_object.proofs.Lists.{create_is, from_json_is, get_is, has_is, is_array_is, keys_is, nth_fine, remove_is, set_is, to_json_is}
 use Rattle.adsafe_object.proofs.natives.silent.Goals as goal
 
@@ -19,16 +19,16 @@ set-requires-clause-value c = subst (IsFine c.args.w c.args.store.now.cells) (sy
 
 pub returns-in-SetProperty-clause-native : goal.returns-in-SetProperty-clause-native
 returns-in-SetProperty-clause-native c = λ this. IfOk-weaker c.set.result _ _ (λ o h.
-    meets_run c.args.w c.args.store.now c.set.new.store c.args.meter.now c.args.meter.now _ o _
-    (set_is c.args.w c.args.store.now.cells c.args.args.now this c.args.which c.nth-first.result.now c.nth-first.ensures c.nth-second.result.now c.nth-second.ensures c.nth.result.now c.nth.ensures c.in-SetProperty.is) (meets_free _ _ _ _ _ _ h)) c.set.ensures.ends
+    refines_run c.args.w c.args.store.now c.set.new.store c.args.meter.now c.args.meter.now _ o _
+    (set_is c.args.w c.args.store.now.cells c.args.args.now this c.args.which c.nth-first.result.now c.nth-first.ensures c.nth-second.result.now c.nth-second.ensures c.nth.result.now c.nth.ensures c.in-SetProperty.is) (refines_free _ _ _ _ _ _ h)) c.set.ensures.ends
 
 pub remove-requires : goal.remove-requires
 remove-requires c = subst (IsFine c.args.w c.args.store.now.cells) (sym c.nth-first.ensures) (nth_fine c.args.w c.args.store.now.cells c.args.args.now 0 c.requires.args)
 
 pub returns-in-RemoveProperty-clause-native : goal.returns-in-RemoveProperty-clause-native
 returns-in-RemoveProperty-clause-native c = λ this. IfOk-weaker c.remove.result _ _ (λ o h.
-    meets_run c.args.w c.args.store.now c.remove.new.store c.args.meter.now c.args.meter.now _ o _
-    (remove_is c.args.w c.args.store.now.cells c.args.args.now this c.args.which c.nth-first.result.now c.nth-first.ensures c.nth-second.result.now c.nth-second.ensures c.in-RemoveProperty.is) (meets_free _ _ _ _ _ _ h)) c.remove.ensures.ends
+    refines_run c.args.w c.args.store.now c.remove.new.store c.args.meter.now c.args.meter.now _ o _
+    (remove_is c.args.w c.args.store.now.cells c.args.args.now this c.args.which c.nth-first.result.now c.nth-first.ensures c.nth-second.result.now c.nth-second.ensures c.in-RemoveProperty.is) (refines_free _ _ _ _ _ _ h)) c.remove.ensures.ends
 
 pub create-requires-clause-object : goal.create-requires-clause-object
 create-requires-clause-object c = subst (IsFine c.args.w c.args.store.now.cells) (sym c.nth-first.ensures) (nth_fine c.args.w c.args.store.now.cells c.args.args.now 0 c.requires.args)
@@ -43,20 +43,20 @@ is_array-requires c = subst (IsFine c.args.w c.args.store.now.cells) (sym c.nth-
 
 pub returns-in-IsArray-clause-native : goal.returns-in-IsArray-clause-native
 returns-in-IsArray-clause-native c = λ this.
-    meets_run c.args.w c.args.store.now c.args.store.now c.args.meter.now c.args.meter.now _ _ _
-    (is_array_is c.args.w c.args.store.now.cells c.args.args.now this c.args.which c.nth-first.result.now c.nth-first.ensures c.in-IsArray.is) (meets_free _ _ _ _ _ _ c.is_array.ensures)
+    refines_run c.args.w c.args.store.now c.args.store.now c.args.meter.now c.args.meter.now _ _ _
+    (is_array_is c.args.w c.args.store.now.cells c.args.args.now this c.args.which c.nth-first.result.now c.nth-first.ensures c.in-IsArray.is) (refines_free _ _ _ _ _ _ c.is_array.ensures)
 
 pub keys-requires-clause-object : goal.keys-requires-clause-object
 keys-requires-clause-object c = subst (IsFine c.args.w c.args.store.now.cells) (sym c.nth-first.ensures) (nth_fine c.args.w c.args.store.now.cells c.args.args.now 0 c.requires.args)
 
 pub returns-in-KeysOf-clause-native : goal.returns-in-KeysOf-clause-native
 returns-in-KeysOf-clause-native c = λ this. IfOk-weaker c.keys.result _ _ (λ o h.
-    meets_run c.args.w c.args.store.now c.keys.new.store c.args.meter.now c.keys.new.meter _ o _
+    refines_run c.args.w c.args.store.now c.keys.new.store c.args.meter.now c.keys.new.meter _ o _
     (keys_is c.args.w c.args.store.now.cells c.args.args.now this c.args.which c.nth-first.result.now c.nth-first.ensures c.in-KeysOf.is) h) c.keys.ensures.native
 
 pub returns-in-FromJson-clause-native : goal.returns-in-FromJson-clause-native
 returns-in-FromJson-clause-native c = λ this. IfOk-weaker c.from_json.result _ _ (λ o h.
-    meets_run c.args.w c.args.store.now c.from_json.new.store c.args.meter.now c.from_json.new.meter _ o _
+    refines_run c.args.w c.args.store.now c.from_json.new.store c.args.meter.now c.from_json.new.meter _ o _
     (from_json_is c.args.w c.args.store.now.cells c.args.args.now this c.args.which c.nth-first.result.now c.nth-first.ensures c.in-FromJson.is) h) c.from_json.ensures.native
 
 pub has-requires : goal.has-requires

@@ -8,9 +8,9 @@ use Rattle.widget_meaning.specs.AdsafeNatives.{keys_native}
 use Rattle.js_image.specs.Image.{image, seen}
 use Rattle.js_values.specs.Fuel.{Fuel}
 use Rattle.js_values.specs.declared.outcome.NativeOut.TheVariants as native
-use Rattle.native_common.specs.Meets.{Meets}
+use Rattle.native_common.specs.Refines.{Refines}
 use Rattle.native_common.specs.Numbers.{counted}
-use Rattle.native_common.proofs.Meeting.{meets_lacking, meets_same, ok_charged, ok_meets_same}
+use Rattle.native_common.proofs.Meeting.{refines_lacking, refines_same, ok_charged, ok_refines_same}
 use Rattle.adsafe_object.proofs.objects.keys.Goals as goal
 
 pub returns-in-Err-clause-native : goal.returns-in-Err-clause-native
@@ -20,13 +20,13 @@ returns-in-Err-clause-native c =
     let o = seen w s.cells c.args.object.now in
     let n = c.keys_len.result in
     let asked : n ≡ counted n = omega arith in
-    meets_same w s s (λ d t. keys_native o t) (λ d t. charge n t (give_texts (keys t o) t)) native.OutOfFuel c.args.meter.now c.take.new.meter
+    refines_same w s s (λ d t. keys_native o t) (λ d t. charge n t (give_texts (keys t o) t)) native.OutOfFuel c.args.meter.now c.take.new.meter
     (λ fs r d.
     let t = image fs r w s in
     ap (λ b. want meaning.E4 b t (charge (length (keys t o)) t (give_texts (keys t o) t))) (sym (c.is_object.ensures.object w s.cells) ∙ c.if-not-is_object.false)
     ∙ ap (λ m. charge m t (give_texts (keys t o) t)) (sym (c.keys_len.ensures fs r w c.requires.object)))
-    (subst (λ (f : Fuel). Meets w s s c.args.meter.now f (λ d t. charge n t (give_texts (keys t o) t)) native.OutOfFuel) (sym c.in-Err.ensures.same)
-    (meets_lacking w s n (λ d t. give_texts (keys t o) t) c.args.meter.now (c.in-Err.ensures.err n asked)))
+    (subst (λ (f : Fuel). Refines w s s c.args.meter.now f (λ d t. charge n t (give_texts (keys t o) t)) native.OutOfFuel) (sym c.in-Err.ensures.same)
+    (refines_lacking w s n (λ d t. give_texts (keys t o) t) c.args.meter.now (c.in-Err.ensures.err n asked)))
 
 pub returns-in_ok-names-in-Ok-clause-native : goal.returns-in_ok-names-in-Ok-clause-native
 returns-in_ok-names-in-Ok-clause-native c =
@@ -36,7 +36,7 @@ returns-in_ok-names-in-Ok-clause-native c =
     let n = c.keys_len.result in
     let asked : n ≡ counted n = omega arith in
     let paid = c.in-Ok.ensures.ok n asked in
-    ok_meets_same w s c.give_texts.new.store (λ d t. keys_native o t) (λ d t. charge n t (give_texts c.in_ok-names-in-Ok.names.items t)) c.give_texts.result c.args.meter.now c.take.new.meter
+    ok_refines_same w s c.give_texts.new.store (λ d t. keys_native o t) (λ d t. charge n t (give_texts c.in_ok-names-in-Ok.names.items t)) c.give_texts.result c.args.meter.now c.take.new.meter
     (λ fs r d.
     let t = image fs r w s in
     ap (λ b. want meaning.E4 b t (charge (length (keys t o)) t (give_texts (keys t o) t))) (sym (c.is_object.ensures.object w s.cells) ∙ c.if-not-is_object.false)

@@ -12,7 +12,7 @@ use Rattle.js_values.specs.Fuel.{Fuel}
 use Rattle.js_values.specs.declared.outcome.NativeOut.TheVariants as native
 use Rattle.page_image.specs.Image.{number, owns}
 use Rattle.native_image.specs.Image.{beside, image}
-use Rattle.native_image.specs.Meets.{MeetsAt}
+use Rattle.native_image.specs.Refines.{RefinesAt}
 use Rattle.native_image.proofs.Meeting.{at_charged, at_lacking, at_same}
 use Rattle.native_image.proofs.Wants.{object_of, primitive_of, unwanted, wanted}
 use Rattle.native_image.proofs.Working.{at_thrown, few_counted}
@@ -84,5 +84,5 @@ returns-in-Err c = λ b.
     primitive_of t u (fire ns (to_text t) v d u) (sym (c.is_object.ensures.object w s.cells) ∙ c.if-is_object.false)
     ∙ wanted E4 (is_event_type (to_text t)) u (charge (length ns) u (fired (to_text t) ns v d u))
     (ap is_event_type (sym (c.in_ok-kind.ensures w s.cells)) ∙ sym c.is_event_type.ensures ∙ c.if-not-is_event_type.false))
-    (subst (λ (f : Fuel). MeetsAt w h h c.args.meter.now f (λ d u. charge (length ns) u (fired (to_text t) ns v d u)) native.OutOfFuel) (sym c.in-Err.ensures.same)
+    (subst (λ (f : Fuel). RefinesAt w h h c.args.meter.now f (λ d u. charge (length ns) u (fired (to_text t) ns v d u)) native.OutOfFuel) (sym c.in-Err.ensures.same)
     (at_lacking w h (length ns) (λ d u. fired (to_text t) ns v d u) c.args.meter.now c.requires.sound (c.in-Err.ensures.err (length ns) (few_counted (number p w) c.args.list.now c.requires.nodes.few))))

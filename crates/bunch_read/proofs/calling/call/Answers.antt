@@ -4,7 +4,7 @@ use Rattle.store_cells.specs.Cells.{IsWidget, number_in}
 use Rattle.widget_meaning.specs.Natives.{run_native}
 use Rattle.js_image.specs.Image.{all_seen}
 use Rattle.native_common.specs.Receivers.{IsReceiver, receiver}
-use Rattle.native_image.specs.Meets.{Reads}
+use Rattle.native_image.specs.Refines.{Reads}
 use Rattle.native_image.specs.Sound.{HoldsOwn, IsSound, KeepsStore}
 use Rattle.bunch_read.proofs.calling.call.Goals as goal
 

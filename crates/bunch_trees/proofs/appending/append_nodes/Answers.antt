@@ -15,7 +15,7 @@ use Rattle.js_values.specs.declared.outcome.NativeOut.TheVariants as native
 use Rattle.page_image.specs.Copies.{trees_at}
 use Rattle.page_image.specs.Image.{number}
 use Rattle.native_image.specs.Image.{beside, image}
-use Rattle.native_image.specs.Meets.{MeetsAt}
+use Rattle.native_image.specs.Refines.{RefinesAt}
 use Rattle.native_image.proofs.Keeping.{keeps_here}
 use Rattle.native_image.proofs.Meeting.{at_charged, at_lacking, at_same}
 use Rattle.native_image.proofs.Wants.{unwanted, wanted}
@@ -112,7 +112,7 @@ returns-in-Err-clause-native c = λ l b sound.
     let paid = charge n u (append_paid ns ms v u) in
     wanted E10 (list_all (is_target u ms) ns) u (want_all is_no_root ms u paid) (sym c.in_ok-takes.ensures ∙ c.if-not-takes.false)
     ∙ wanted E10 (list_all is_no_root ms) u paid (sym c.none_root.ensures ∙ c.if-not-none_root.false))
-    (subst (λ (k : Fuel). MeetsAt w h h c.args.meter.now k (λ d u. charge n u (append_paid ns ms v u)) native.OutOfFuel) (sym c.in-Err.ensures.same)
+    (subst (λ (k : Fuel). RefinesAt w h h c.args.meter.now k (λ d u. charge n u (append_paid ns ms v u)) native.OutOfFuel) (sym c.in-Err.ensures.same)
     (at_lacking w h n (λ d u. append_paid ns ms v u) c.args.meter.now sound
     (c.in-Err.ensures.err n (times (length ns) (length c.args.bunch.now.nodes.now) c.measure_all-extent.result.nodes (size (trees_at p w c.args.news.now)) c.saturating_mul.result (sym (length-map c.args.bunch.now.nodes.now (number p w))) c.measure_all-extent.ensures.nodes c.saturating_mul.ensures))))
 

@@ -5,7 +5,7 @@ use Rattle.js_values.specs.declared.outcome.NativeOut.TheVariants as native
 use Rattle.widget_meaning.specs.Plan.{charge}
 use Rattle.page_image.specs.Image.{number}
 use Rattle.native_image.specs.Image.{beside}
-use Rattle.native_image.specs.Meets.{MeetsAt}
+use Rattle.native_image.specs.Refines.{RefinesAt}
 use Rattle.native_image.proofs.Keeping.{keeps_here}
 use Rattle.native_image.proofs.Meeting.{at_charged, at_lacking}
 use Rattle.native_image.proofs.Working.{few_counted}
@@ -34,7 +34,7 @@ returns-in-Err-clause-native c = λ l b sound.
     let p = c.args.page.now in
     let h = beside c.args.store.now p l b in
     let ns = map (number p w) c.args.nodes.now in
-    subst (λ (k : Fuel). MeetsAt w h h c.args.meter.now k (λ d u. charge (length ns) u (explode_paid ns u)) native.OutOfFuel) (sym c.in-Err.ensures.same)
+    subst (λ (k : Fuel). RefinesAt w h h c.args.meter.now k (λ d u. charge (length ns) u (explode_paid ns u)) native.OutOfFuel) (sym c.in-Err.ensures.same)
     (at_lacking w h (length ns) (λ d u. explode_paid ns u) c.args.meter.now sound (c.in-Err.ensures.err (length ns) (few_counted (number p w) c.args.nodes.now c.requires.nodes.few)))
 
 pub returns-in-Err-clause-kept : goal.returns-in-Err-clause-kept

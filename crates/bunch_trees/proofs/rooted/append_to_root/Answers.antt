@@ -13,7 +13,7 @@ use Rattle.page_image.specs.Copies.{trees_at}
 use Rattle.page_image.specs.Image.{forest, number}
 use Rattle.page_image.specs.Targets.{takes}
 use Rattle.native_image.specs.Image.{beside, image}
-use Rattle.native_image.specs.Meets.{MeetsAt}
+use Rattle.native_image.specs.Refines.{RefinesAt}
 use Rattle.native_image.proofs.Keeping.{keeps_here}
 use Rattle.native_image.proofs.Meeting.{at_charged, at_lacking, at_same}
 use Rattle.native_image.proofs.Wants.{unwanted, wanted}
@@ -84,7 +84,7 @@ returns-in-Err-clause-native c = λ l b sound.
     let u = image fs x w h in
     wanted E10 (list_all (is_target u ms) (root ∷ [])) u (charge n u (root_paid ms u))
     (alone_all (takes (forest p w) ms) (number p w c.root_of-root.result) true c.root_of-root.ensures.first (sym c.may_append.ensures ∙ c.if-not-may_append.false)))
-    (subst (λ (k : Fuel). MeetsAt w h h c.args.meter.now k (λ d u. charge n u (root_paid ms u)) native.OutOfFuel) (sym c.in-Err.ensures.same)
+    (subst (λ (k : Fuel). RefinesAt w h h c.args.meter.now k (λ d u. charge n u (root_paid ms u)) native.OutOfFuel) (sym c.in-Err.ensures.same)
     (at_lacking w h n (λ d u. root_paid ms u) c.args.meter.now sound (c.in-Err.ensures.err n c.measure_all-extent.ensures.nodes)))
 
 pub returns-in-Err-clause-kept : goal.returns-in-Err-clause-kept

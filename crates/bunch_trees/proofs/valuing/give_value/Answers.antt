@@ -11,7 +11,7 @@ use Rattle.js_values.specs.Fuel.{Fuel}
 use Rattle.js_values.specs.declared.outcome.NativeOut.TheVariants as native
 use Rattle.page_image.specs.Image.{number}
 use Rattle.native_image.specs.Image.{beside, image}
-use Rattle.native_image.specs.Meets.{MeetsAt}
+use Rattle.native_image.specs.Refines.{RefinesAt}
 use Rattle.native_image.proofs.Keeping.{keeps_here}
 use Rattle.native_image.proofs.Meeting.{at_charged, at_lacking, at_same}
 use Rattle.native_image.proofs.Wants.{unwanted, wanted}
@@ -72,7 +72,7 @@ returns-in-Err-clause-native c = λ l b sound.
     let t = c.args.text in
     at_same w h h (λ d u. set_value ns t v u) (λ d u. charge (length ns) u (value_paid ns t v u)) native.OutOfFuel c.args.meter.now c.take.new.meter
     (λ fs x d. let u = image fs x w h in wanted E10 (list_all (is_value_target u t) ns) u (charge (length ns) u (value_paid ns t v u)) (sym (c.all_take.ensures u refl) ∙ c.if-not-all_take.false))
-    (subst (λ (k : Fuel). MeetsAt w h h c.args.meter.now k (λ d u. charge (length ns) u (value_paid ns t v u)) native.OutOfFuel) (sym c.in-Err.ensures.same)
+    (subst (λ (k : Fuel). RefinesAt w h h c.args.meter.now k (λ d u. charge (length ns) u (value_paid ns t v u)) native.OutOfFuel) (sym c.in-Err.ensures.same)
     (at_lacking w h (length ns) (λ d u. value_paid ns t v u) c.args.meter.now sound (c.in-Err.ensures.err (length ns) (few_counted (number p w) c.args.bunch.now.nodes.now c.requires.nodes.few))))
 
 pub returns-in-Err-clause-kept : goal.returns-in-Err-clause-kept

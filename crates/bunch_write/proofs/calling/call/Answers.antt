@@ -6,7 +6,7 @@ use Rattle.js_image.specs.Held.{AreFine}
 use Rattle.js_image.specs.Image.{all_seen}
 use Rattle.native_common.specs.Receivers.{IsReceiver, receiver}
 use Rattle.native_image.specs.Image.{beside}
-use Rattle.native_image.specs.Meets.{MeetsAt}
+use Rattle.native_image.specs.Refines.{RefinesAt}
 use Rattle.native_image.specs.Sound.{IsSound, KeepsAll}
 use Rattle.bunch_write.proofs.calling.call.Goals as goal
 
@@ -28,7 +28,7 @@ call_of-requires-clause-args c = subst (λ (v : ℕ). AreFine v c.args.store.now
 pub returns-clause-native : goal.returns-clause-native
 returns-clause-native c =
     subst
-    (λ (v : ℕ). IfOk c.call_of.result (λ o. MeetsAt v (beside c.args.store.now c.args.page.now c.args.around.now c.args.bubbled.now) (beside c.call_of.new.store c.call_of.new.page c.call_of.new.around c.call_of.new.bubbled) c.args.meter.now c.call_of.new.meter (run_native c.args.which (receiver v c.args.store.now.cells c.args.this.now) (all_seen v c.args.store.now.cells c.args.args.now)) o))
+    (λ (v : ℕ). IfOk c.call_of.result (λ o. RefinesAt v (beside c.args.store.now c.args.page.now c.args.around.now c.args.bubbled.now) (beside c.call_of.new.store c.call_of.new.page c.call_of.new.around c.call_of.new.bubbled) c.args.meter.now c.call_of.new.meter (run_native c.args.which (receiver v c.args.store.now.cells c.args.this.now) (all_seen v c.args.store.now.cells c.args.args.now)) o))
     (sym (ap number_in c.in-Widget.is))
     c.call_of.ensures.native
 

@@ -15,7 +15,7 @@ use Rattle.js_values.specs.Fuel.{Fuel}
 use Rattle.js_values.specs.declared.outcome.NativeOut.TheVariants as native
 use Rattle.page_image.specs.Image.{number}
 use Rattle.native_image.specs.Image.{beside, image}
-use Rattle.native_image.specs.Meets.{MeetsAt}
+use Rattle.native_image.specs.Refines.{RefinesAt}
 use Rattle.native_image.proofs.Joint.{rest}
 use Rattle.native_image.proofs.Keeping.{keeps_here}
 use Rattle.native_image.proofs.Meeting.{at_charged, at_lacking, at_same}
@@ -81,7 +81,7 @@ returns-in-Err-clause-native c = λ b.
     (λ fs x d.
     let u = image fs x w h in
     wanted E4 (is_own_function u f) u (charge (length ns) u (each_paid ns f v d u)) (c.function_of.ensures.own fs (rest w c.requires.widget x h) w c.requires.func ∙ ap is_some c.in-Some.is))
-    (subst (λ (k : Fuel). MeetsAt w h h c.args.meter.now k (λ d u. charge (length ns) u (each_paid ns f v d u)) native.OutOfFuel) (sym c.in-Err.ensures.same)
+    (subst (λ (k : Fuel). RefinesAt w h h c.args.meter.now k (λ d u. charge (length ns) u (each_paid ns f v d u)) native.OutOfFuel) (sym c.in-Err.ensures.same)
     (at_lacking w h (length ns) (each_paid ns f v) c.args.meter.now c.requires.sound (c.in-Err.ensures.err (length ns) (few_counted (number p w) c.args.list.now c.requires.nodes.few))))
 
 pub returns-in-Err-clause-kept : goal.returns-in-Err-clause-kept

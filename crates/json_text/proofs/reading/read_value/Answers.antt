@@ -5,8 +5,8 @@ use Rattle.widget_meaning.specs.Plan.{charge}
 use Rattle.js_image.specs.Image.{image}
 use Rattle.js_values.specs.Fuel.{Fuel}
 use Rattle.js_values.specs.declared.outcome.NativeOut.TheVariants as native
-use Rattle.native_common.specs.Meets.{Meets}
-use Rattle.native_common.proofs.Meeting.{ends_here, meets_charged, meets_free, meets_lacking, meets_same}
+use Rattle.native_common.specs.Refines.{Refines}
+use Rattle.native_common.proofs.Meeting.{ends_here, refines_charged, refines_free, refines_lacking, refines_same}
 use Rattle.json_text.specs.declared.weighing.Weight.{Weight}
 use Rattle.json_text.specs.Reading.{born_plan, read_plan}
 use Rattle.json_text.specs.Weights.{weight}
@@ -16,7 +16,7 @@ use Rattle.json_text.proofs.reading.read_value.Goals as goal
 
 pub returns-then-not-sum-clause-native : goal.returns-then-not-sum-clause-native
 returns-then-not-sum-clause-native c = λ n e.
-    meets_free c.args.w c.args.store.now c.args.store.now _ _ c.args.meter.now (ends_here c.args.w c.args.store.now _ _ (λ fs r node d.
+    refines_free c.args.w c.args.store.now c.args.store.now _ _ c.args.meter.now (ends_here c.args.w c.args.store.now _ _ (λ fs r node d.
     bad_names (view c.args.json.now) (image fs r c.args.w c.args.store.now) n (ap (λ (a : Weight). a.named) (sym (c.in_ok-weigh.ensures ∙ plus_first (weight (view c.args.json.now)))) ∙ c.if-not-sum.true)) tt)
 
 pub returns-in-Err-clause-native : goal.returns-in-Err-clause-native
@@ -24,10 +24,10 @@ returns-in-Err-clause-native c = λ n e.
     let s = c.args.store.now in
     let w = c.args.w in
     let d = view c.args.json.now in
-    meets_same w s s (λ i t. read_plan n d t) (λ i t. charge n t (born_plan d t)) native.OutOfFuel c.args.meter.now c.take.new.meter
+    refines_same w s s (λ i t. read_plan n d t) (λ i t. charge n t (born_plan d t)) native.OutOfFuel c.args.meter.now c.take.new.meter
     (λ fs r i. good_names d (image fs r w s) n (ap (λ (a : Weight). a.named) (sym (c.in_ok-weigh.ensures ∙ plus_first (weight d))) ∙ c.if-not-sum.false))
-    (subst (λ (f : Fuel). Meets w s s c.args.meter.now f (λ i t. charge n t (born_plan d t)) native.OutOfFuel) (sym c.in-Err.ensures.same)
-    (meets_lacking w s n (λ i t. born_plan d t) c.args.meter.now (c.in-Err.ensures.err n e)))
+    (subst (λ (f : Fuel). Refines w s s c.args.meter.now f (λ i t. charge n t (born_plan d t)) native.OutOfFuel) (sym c.in-Err.ensures.same)
+    (refines_lacking w s n (λ i t. born_plan d t) c.args.meter.now (c.in-Err.ensures.err n e)))
 
 pub returns-in-Ok-clause-native : goal.returns-in-Ok-clause-native
 returns-in-Ok-clause-native c = IfOk-weaker c.bear.result _ _ (λ o h. λ n e.
@@ -35,6 +35,6 @@ returns-in-Ok-clause-native c = IfOk-weaker c.bear.result _ _ (λ o h. λ n e.
     let w = c.args.w in
     let d = view c.args.json.now in
     let paid = c.in-Ok.ensures.ok n e in
-    meets_same w s c.bear.new.store (λ i t. read_plan n d t) (λ i t. charge n t (born_plan d t)) o c.args.meter.now c.take.new.meter
+    refines_same w s c.bear.new.store (λ i t. read_plan n d t) (λ i t. charge n t (born_plan d t)) o c.args.meter.now c.take.new.meter
     (λ fs r i. good_names d (image fs r w s) n (ap (λ (a : Weight). a.named) (sym (c.in_ok-weigh.ensures ∙ plus_first (weight d))) ∙ c.if-not-sum.false))
-    (meets_charged w s c.bear.new.store n (λ i t. born_plan d t) o c.args.meter.now c.take.new.meter paid.0 paid.1 h)) c.bear.ensures.ends
+    (refines_charged w s c.bear.new.store n (λ i t. born_plan d t) o c.args.meter.now c.take.new.meter paid.0 paid.1 h)) c.bear.ensures.ends

@@ -7,7 +7,7 @@ use Rattle.js_image.specs.Image.{image, seen}
 use Rattle.js_image.specs.declared.outcome.Fault.TheVariants as fault
 use Rattle.js_image.specs.declared.outcome.StopCause.TheVariants as cause
 use Rattle.js_values.specs.declared.outcome.NativeOut.TheVariants as native
-use Rattle.native_common.proofs.Meeting.{ends_here, meets_free}
+use Rattle.native_common.proofs.Meeting.{ends_here, refines_free}
 use Rattle.json_text.specs.declared.steps.Step.TheVariants as step
 use Rattle.json_text.proofs.Ended.{confined_as}
 use Rattle.json_text.proofs.Texts.{step_is}
@@ -20,7 +20,7 @@ returns-in-NoJson-clause-native c =
     confined_as w s s c.args.meter.now c.args.meter.now (λ d t. to_json (seen w s.cells c.args.v.now) t) (λ d t. throw meaning.E4 t) (native.Throw fault.E4)
     (λ fs r d confined. ap (λ x. give_json x (image fs r w s)) (sym (step_is _ step.NoJson c.write_value.new.out.items _ c.in-NoJson.is (c.in_ok-write_value.ensures fs r w confined c.requires.value)
     ∙ ap (value_text 100 (image fs r w s) (seen w s.cells c.args.v.now)) c.new-out.ensures.items)))
-    (meets_free w s s (λ d t. throw meaning.E4 t) (native.Throw fault.E4) c.args.meter.now (ends_here w s (λ d t. throw meaning.E4 t) (native.Throw fault.E4) (λ fs r node d. refl) tt))
+    (refines_free w s s (λ d t. throw meaning.E4 t) (native.Throw fault.E4) c.args.meter.now (ends_here w s (λ d t. throw meaning.E4 t) (native.Throw fault.E4) (λ fs r node d. refl) tt))
 
 pub returns-in-TooLong-clause-native : goal.returns-in-TooLong-clause-native
 returns-in-TooLong-clause-native c =

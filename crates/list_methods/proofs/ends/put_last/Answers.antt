@@ -7,7 +7,7 @@ use Rattle.list_methods.proofs.Lists.{all_stay}
 use Rattle.std.proofs.Common.{◌+◌}
 use Rattle.js_image.specs.Image.{all_seen}
 use Rattle.js_values.specs.declared.outcome.NativeOut.TheVariants as native
-use Rattle.native_common.specs.Meets.{Ends}
+use Rattle.native_common.specs.Refines.{Ends}
 use Rattle.list_methods.specs.Arrays.{number}
 use Rattle.list_methods.specs.Parts.{put_last}
 use Rattle.list_methods.proofs.Meeting.{on_err}

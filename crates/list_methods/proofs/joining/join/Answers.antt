@@ -7,7 +7,7 @@ use Rattle.widget_meaning.specs.ListChanges.{list_extra}
 use Rattle.widget_meaning.specs.ListNatives.{join, joined_text}
 use Rattle.js_image.specs.declared.outcome.Fault.TheVariants as fault
 use Rattle.js_image.specs.Image.{all_seen, image, seen}
-use Rattle.native_common.proofs.Meeting.{meets_same}
+use Rattle.native_common.proofs.Meeting.{refines_same}
 use Rattle.native_common.proofs.Seen.{nth_seen}
 use Rattle.list_methods.specs.Arrays.{number}
 use Rattle.list_methods.proofs.Meeting.{thrown}
@@ -51,7 +51,7 @@ returns-clause-native c =
     let vs = all_seen w old.cells c.args.args.now in
     let between = seen w old.cells c.nth-between.result.now in
     let text = c.in_ok-separator.separator in
-    IfOk-weaker c.give_joined.result _ _ (λ o h. meets_same w old c.give_joined.new.store (λ d s. join n len (nth 0 vs) (list_extra len vs s) s) (λ d s. give_text (list_extra len vs s) (join_by joined_text text (elements s n len)) s) o c.args.meter.now c.give_joined.new.meter
+    IfOk-weaker c.give_joined.result _ _ (λ o h. refines_same w old c.give_joined.new.store (λ d s. join n len (nth 0 vs) (list_extra len vs s) s) (λ d s. give_text (list_extra len vs s) (join_by joined_text text (elements s n len)) s) o c.args.meter.now c.give_joined.new.meter
     (λ fs r d.
     let s = image fs r w old in
     ap (λ x. join n len x (list_extra len vs s) s) (nth_seen w old.cells c.args.args.now 0 ∙ ap (seen w old.cells) (sym c.nth-between.ensures))

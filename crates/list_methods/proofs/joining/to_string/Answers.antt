@@ -9,7 +9,7 @@ use Rattle.std.specs.Prelude.{codes}
 use Rattle.std.proofs.Common.{refl}
 use Rattle.js_image.specs.declared.outcome.Fault.TheVariants as fault
 use Rattle.js_image.specs.Image.{image}
-use Rattle.native_common.proofs.Meeting.{meets_same}
+use Rattle.native_common.proofs.Meeting.{refines_same}
 use Rattle.list_methods.specs.Arrays.{number}
 use Rattle.list_methods.proofs.Meeting.{thrown}
 use Rattle.list_methods.proofs.Plans.{join_is, join_object}
@@ -24,6 +24,6 @@ returns-clause-native c =
     let old = c.args.store.now in
     let n = number w old c.args.array in
     let len = c.args.array.len in
-    IfOk-weaker c.give_joined.result _ _ (λ o h. meets_same w old c.give_joined.new.store (λ d s. array_to_string n len s) (λ d s. give_text (len + 1) (join_by joined_text c.in_ok-word.field-0 (elements s n len)) s) o c.args.meter.now c.give_joined.new.meter
+    IfOk-weaker c.give_joined.result _ _ (λ o h. refines_same w old c.give_joined.new.store (λ d s. array_to_string n len s) (λ d s. give_text (len + 1) (join_by joined_text c.in_ok-word.field-0 (elements s n len)) s) o c.args.meter.now c.give_joined.new.meter
     (λ fs r d. join_is n len (image fs r w old) (Text (codes ",")) (len + 1) refl (sym (c.holds_objects.ensures fs r) ∙ c.if-holds_objects.false) ∙ ap (λ t. give_text (len + 1) (join_by joined_text t (elements (image fs r w old) n len)) (image fs r w old)) (sym c.in_ok-word.ensures))
     (h (λ s. len + 1) (λ fs r. c.length_and_one.ensures))) c.give_joined.ensures.native

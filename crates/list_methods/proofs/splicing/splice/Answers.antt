@@ -16,11 +16,11 @@ use Rattle.js_image.specs.Held.{AreFine, IsFine}
 use Rattle.js_image.specs.Image.{all_seen, image, seen}
 use Rattle.js_values.specs.declared.outcome.NativeOut.TheVariants as native
 use Rattle.native_common.specs.Numbers.{number_or}
-use Rattle.native_common.proofs.Meeting.{ends_here, ends_same, meets_same}
+use Rattle.native_common.proofs.Meeting.{ends_here, ends_same, refines_same}
 use Rattle.native_common.proofs.Seen.{nth_seen}
 use Rattle.list_methods.specs.Arrays.{number}
 use Rattle.list_methods.proofs.Lists.{all_left}
-use Rattle.list_methods.proofs.Meeting.{meets_taken, meets_wanting, thrown}
+use Rattle.list_methods.proofs.Meeting.{refines_taken, refines_wanting, thrown}
 use Rattle.list_methods.proofs.Plans.{splice_count_leaves, splice_is, splice_leaves, splice_object}
 use Rattle.list_methods.proofs.splicing.splice.Goals as goal
 
@@ -43,7 +43,7 @@ returns-in_default-clause-native c =
     let vs = all_seen w old.cells c.args.args.now in
     let primitive = ap (list_any is_object) (take-map (seen w old.cells) 2 c.args.args.now ∙ ap (all_seen w old.cells) (sym c.first_two.ensures)) ∙ sym (c.any_object.ensures w old.cells) ∙ c.if-any_object.false in
     let left = ap (λ v. number_or (pos 0) (to_number v)) (nth_seen w old.cells c.args.args.now 0 ∙ ap (seen w old.cells) (sym c.nth.ensures)) ∙ sym (c.number_or.ensures w old.cells) ∙ c.in_default.is in
-    meets_same w old old (λ d s. splice n len vs s) (λ d s. charge (list_extra len vs s) s (Halt Number s)) c.charged.result c.args.meter.now c.charged.new.meter
+    refines_same w old old (λ d s. splice n len vs s) (λ d s. charge (list_extra len vs s) s (Halt Number s)) c.charged.result c.args.meter.now c.charged.new.meter
     (λ fs r d. splice_leaves n len (image fs r w old) vs (list_extra len vs (image fs r w old)) primitive left)
     (c.charged.ensures w old (λ d t. Halt Number t) (λ t. list_extra len vs t) c.extra-asked.ensures (ends_here w old (λ d t. Halt Number t) (native.Stop cause.Number) (λ fs r node d. refl) tt))
 
@@ -56,7 +56,7 @@ returns-in_default-count_of-clause-native c =
     let vs = all_seen w old.cells c.args.args.now in
     let primitive = ap (list_any is_object) (take-map (seen w old.cells) 2 c.args.args.now ∙ ap (all_seen w old.cells) (sym c.first_two.ensures)) ∙ sym (c.any_object.ensures w old.cells) ∙ c.if-any_object.false in
     let place = ap (λ v. number_or (pos 0) (to_number v)) (nth_seen w old.cells c.args.args.now 0 ∙ ap (seen w old.cells) (sym c.nth.ensures)) ∙ sym (c.number_or.ensures w old.cells) ∙ c.in-Some.is in
-    meets_same w old old (λ d s. splice n len vs s) (λ d s. charge (list_extra len vs s) s (Halt Number s)) c.charged-in_default-count_of.result c.args.meter.now c.charged-in_default-count_of.new.meter
+    refines_same w old old (λ d s. splice n len vs s) (λ d s. charge (list_extra len vs s) s (Halt Number s)) c.charged-in_default-count_of.result c.args.meter.now c.charged-in_default-count_of.new.meter
     (λ fs r d. splice_count_leaves n len (image fs r w old) vs (list_extra len vs (image fs r w old)) primitive c.in-Some.a place (sym (c.count_of.ensures w old.cells) ∙ c.in_default-count_of.is))
     (c.charged-in_default-count_of.ensures w old (λ d t. Halt Number t) (λ t. list_extra len vs t) c.extra-asked.ensures (ends_here w old (λ d t. Halt Number t) (native.Stop cause.Number) (λ fs r node d. refl) tt))
 
@@ -79,9 +79,9 @@ returns-in-Ok-clause-native c =
     let n_fits : SFits w64 c.in-Some-count_of.n = search rules in
     let at : c.cut_of-cut.result.at ≡ from_end len a = c.cut_of-cut.ensures.at ∙ ap (from_end len) (to_z-of_z w64 a a_fits) in
     let count : c.cut_of-cut.result.count ≡ clamped (len - from_end len a) n = c.cut_of-cut.ensures.count ∙ (λ j. clamped (len - from_end len (to_z-of_z w64 a a_fits j)) (to_z-of_z w64 n n_fits j)) in
-    IfOk-weaker c.spliced.result _ _ (λ o h. meets_same w old new (λ d s. splice m len vs s) (λ d s. charge (list_extra len vs s) s (spliced m (elements s m len) (from_end len a) (clamped (len - from_end len a) n) (drop 2 vs) s)) o c.args.meter.now c.take.new.meter
+    IfOk-weaker c.spliced.result _ _ (λ o h. refines_same w old new (λ d s. splice m len vs s) (λ d s. charge (list_extra len vs s) s (spliced m (elements s m len) (from_end len a) (clamped (len - from_end len a) n) (drop 2 vs) s)) o c.args.meter.now c.take.new.meter
     (λ fs r d. splice_is m len (image fs r w old) vs (list_extra len vs (image fs r w old)) primitive a place n (sym (c.count_of.ensures w old.cells) ∙ c.in-Some-count_of.is))
-    (meets_taken w old new (λ s. list_extra len vs s) c.extra-asked.result c.extra-asked.ensures (λ d s. spliced m (elements s m len) (from_end len a) (clamped (len - from_end len a) n) (drop 2 vs) s) c.args.meter.now c.take.new.meter o c.in-Ok.ensures.ok
+    (refines_taken w old new (λ s. list_extra len vs s) c.extra-asked.result c.extra-asked.ensures (λ d s. spliced m (elements s m len) (from_end len a) (clamped (len - from_end len a) n) (drop 2 vs) s) c.args.meter.now c.take.new.meter o c.in-Ok.ensures.ok
     (ends_same w old new (λ d s. spliced m (elements s m len) (from_end len a) (clamped (len - from_end len a) n) (drop 2 vs) s) (λ d s. spliced m (elements s m len) c.cut_of-cut.result.at c.cut_of-cut.result.count (all_seen w old.cells c.behind_two.result.now) s) o
     (λ fs r d j. spliced m (elements (image fs r w old) m len) (sym at j) (sym count j) ((drop-map (seen w old.cells) 2 c.args.args.now ∙ ap (all_seen w old.cells) (sym c.behind_two.ensures)) j) (image fs r w old)) h))) c.spliced.ensures.native
 
@@ -96,6 +96,6 @@ returns-clause-native c =
     let n = c.in-Some-count_of.n in
     let primitive = ap (list_any is_object) (take-map (seen w old.cells) 2 c.args.args.now ∙ ap (all_seen w old.cells) (sym c.first_two.ensures)) ∙ sym (c.any_object.ensures w old.cells) ∙ c.if-any_object.false in
     let place = ap (λ v. number_or (pos 0) (to_number v)) (nth_seen w old.cells c.args.args.now 0 ∙ ap (seen w old.cells) (sym c.nth.ensures)) ∙ sym (c.number_or.ensures w old.cells) ∙ c.in-Some.is in
-    meets_same w old old (λ d s. splice m len vs s) (λ d s. charge (list_extra len vs s) s (spliced m (elements s m len) (from_end len a) (clamped (len - from_end len a) n) (drop 2 vs) s)) native.OutOfFuel c.args.meter.now c.take.new.meter
+    refines_same w old old (λ d s. splice m len vs s) (λ d s. charge (list_extra len vs s) s (spliced m (elements s m len) (from_end len a) (clamped (len - from_end len a) n) (drop 2 vs) s)) native.OutOfFuel c.args.meter.now c.take.new.meter
     (λ fs r d. splice_is m len (image fs r w old) vs (list_extra len vs (image fs r w old)) primitive a place n (sym (c.count_of.ensures w old.cells) ∙ c.in-Some-count_of.is))
-    (meets_wanting w old old (λ s. list_extra len vs s) c.extra-asked.result c.extra-asked.ensures (λ d s. spliced m (elements s m len) (from_end len a) (clamped (len - from_end len a) n) (drop 2 vs) s) c.args.meter.now c.take.new.meter c.in-Err.ensures.err c.in-Err.ensures.same refl)
+    (refines_wanting w old old (λ s. list_extra len vs s) c.extra-asked.result c.extra-asked.ensures (λ d s. spliced m (elements s m len) (from_end len a) (clamped (len - from_end len a) n) (drop 2 vs) s) c.args.meter.now c.take.new.meter c.in-Err.ensures.err c.in-Err.ensures.same refl)

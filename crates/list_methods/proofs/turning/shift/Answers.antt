@@ -5,7 +5,7 @@ use Rattle.widget_meaning.specs.ListChanges.{change, list_extra}
 use Rattle.widget_meaning.specs.NativeForms.{elements}
 use Rattle.js_image.specs.Image.{all_seen}
 use Rattle.list_methods.specs.Arrays.{number}
-use Rattle.list_methods.proofs.Meeting.{meets_taken, meets_wanting}
+use Rattle.list_methods.proofs.Meeting.{refines_taken, refines_wanting}
 use Rattle.list_methods.proofs.turning.shift.Goals as goal
 
 pub returns-in-Ok-clause-native : goal.returns-in-Ok-clause-native
@@ -15,7 +15,7 @@ returns-in-Ok-clause-native c =
     let n = number w old c.args.array in
     let len = c.args.array.len in
     let vs = all_seen w old.cells c.args.args.now in
-    IfOk-weaker c.take_first.result _ _ (λ o h. meets_taken w old c.take_first.new.store (λ s. list_extra len vs s) c.extra-asked.result c.extra-asked.ensures (λ d s. change n (drop 1 (elements s n len)) (nth 0 (elements s n len)) s) c.args.meter.now c.take.new.meter o c.in-Ok.ensures.ok h) c.take_first.ensures.native
+    IfOk-weaker c.take_first.result _ _ (λ o h. refines_taken w old c.take_first.new.store (λ s. list_extra len vs s) c.extra-asked.result c.extra-asked.ensures (λ d s. change n (drop 1 (elements s n len)) (nth 0 (elements s n len)) s) c.args.meter.now c.take.new.meter o c.in-Ok.ensures.ok h) c.take_first.ensures.native
 
 pub returns-in-Err-clause-native : goal.returns-in-Err-clause-native
 returns-in-Err-clause-native c =
@@ -24,4 +24,4 @@ returns-in-Err-clause-native c =
     let n = number w old c.args.array in
     let len = c.args.array.len in
     let vs = all_seen w old.cells c.args.args.now in
-    meets_wanting w old old (λ s. list_extra len vs s) c.extra-asked.result c.extra-asked.ensures (λ d s. change n (drop 1 (elements s n len)) (nth 0 (elements s n len)) s) c.args.meter.now c.take.new.meter c.in-Err.ensures.err c.in-Err.ensures.same refl
+    refines_wanting w old old (λ s. list_extra len vs s) c.extra-asked.result c.extra-asked.ensures (λ d s. change n (drop 1 (elements s n len)) (nth 0 (elements s n len)) s) c.args.meter.now c.take.new.meter c.in-Err.ensures.err c.in-Err.ensures.same refl

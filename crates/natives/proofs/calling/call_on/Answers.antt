@@ -5,14 +5,14 @@ use Rattle.js_image.specs.Held.{AreFine}
 use Rattle.js_image.specs.Image.{all_seen}
 use Rattle.native_common.specs.Receivers.{receiver}
 use Rattle.native_image.specs.Image.{beside}
-use Rattle.native_image.specs.Meets.{MeetsAt, Reads}
+use Rattle.native_image.specs.Refines.{RefinesAt, Reads}
 use Rattle.native_image.proofs.Keeping.{page_same, host_here}
-use Rattle.natives.specs.Meets.{MeetsWhole}
+use Rattle.natives.specs.Refines.{RefinesWhole}
 use Rattle.natives.specs.Rooms.{is_of}
 use Rattle.natives.specs.Reach.{reach}
 use Rattle.natives.proofs.InRooms.{in_room}
 use Rattle.natives.proofs.Receivers.{as_called}
-use Rattle.natives.proofs.Whole.{meets_kept, store_keeps, store_whole, whole_at}
+use Rattle.natives.proofs.Whole.{refines_kept, store_keeps, store_whole, whole_at}
 use Rattle.natives.proofs.calling.call_on.Goals as goal
 
 pub call-requires-clause-part : goal.call-requires-clause-part
@@ -62,7 +62,7 @@ returns-in-Texts-clause-native c =
 pub returns-in-Texts-clause-kept : goal.returns-in-Texts-clause-kept
 returns-in-Texts-clause-kept c =
     store_keeps c.args.w c.args.store.now c.call.new.store c.args.page.now c.args.around.now c.requires.sound
-    (meets_kept c.args.w c.args.store.now c.call.new.store c.args.meter.now c.call.new.meter _ c.call.result c.call.ensures.native c.call.ensures.memory)
+    (refines_kept c.args.w c.args.store.now c.call.new.store c.args.meter.now c.call.new.meter _ c.call.result c.call.ensures.native c.call.ensures.memory)
 
 pub returns-in-Lists-clause-native : goal.returns-in-Lists-clause-native
 returns-in-Lists-clause-native c =
@@ -84,7 +84,7 @@ returns-in-Lists-clause-native c =
 pub returns-in-Lists-clause-kept : goal.returns-in-Lists-clause-kept
 returns-in-Lists-clause-kept c =
     store_keeps c.args.w c.args.store.now c.call-in-Lists.new.store c.args.page.now c.args.around.now c.requires.sound
-    (meets_kept c.args.w c.args.store.now c.call-in-Lists.new.store c.args.meter.now c.call-in-Lists.new.meter _ c.call-in-Lists.result c.call-in-Lists.ensures.native c.call-in-Lists.ensures.memory)
+    (refines_kept c.args.w c.args.store.now c.call-in-Lists.new.store c.args.meter.now c.call-in-Lists.new.meter _ c.call-in-Lists.result c.call-in-Lists.ensures.native c.call-in-Lists.ensures.memory)
 
 pub returns-in-Adsafe-clause-native : goal.returns-in-Adsafe-clause-native
 returns-in-Adsafe-clause-native c =
@@ -101,7 +101,7 @@ returns-in-Adsafe-clause-native c =
     let same = ap (all_seen w s.cells) c.as_slice-args.ensures in
     let n = c.adsafe_native.new in
     as_called w (reach s p l b log posts) (reach n.store p n.around b n.log.items n.posts.items) c.args.meter.now n.meter c.args.native.now.which this this vs ws c.adsafe_native.result refl same
-    (IfOk-weaker c.adsafe_native.result _ (MeetsWhole w (reach s p l b log posts) (reach n.store p n.around b n.log.items n.posts.items) c.args.meter.now n.meter (run_native c.args.native.now.which this vs))
+    (IfOk-weaker c.adsafe_native.result _ (RefinesWhole w (reach s p l b log posts) (reach n.store p n.around b n.log.items n.posts.items) c.args.meter.now n.meter (run_native c.args.native.now.which this vs))
     (λ o h. h p b c.requires.sound) c.adsafe_native.ensures.native)
 
 pub returns-in-Adsafe-clause-kept : goal.returns-in-Adsafe-clause-kept
@@ -123,8 +123,8 @@ returns-in-Reads-clause-native c =
     let n = c.call-in-Reads.new in
     let plan = run_native c.args.native.now.which this vs in
     as_called w (reach s p l b log posts) (reach n.store p l b log posts) c.args.meter.now n.meter c.args.native.now.which this this vs ws c.call-in-Reads.result refl same
-    (IfOk-weaker c.call-in-Reads.result (Reads w s n.store p l c.args.meter.now n.meter plan) (MeetsWhole w (reach s p l b log posts) (reach n.store p l b log posts) c.args.meter.now n.meter plan)
-    (λ o h. whole_at w log posts (beside s p l b) (beside n.store p l b) c.args.meter.now n.meter plan o (h.meets b)) c.call-in-Reads.ensures.native)
+    (IfOk-weaker c.call-in-Reads.result (Reads w s n.store p l c.args.meter.now n.meter plan) (RefinesWhole w (reach s p l b log posts) (reach n.store p l b log posts) c.args.meter.now n.meter plan)
+    (λ o h. whole_at w log posts (beside s p l b) (beside n.store p l b) c.args.meter.now n.meter plan o (h.refines b)) c.call-in-Reads.ensures.native)
 
 pub returns-in-Reads-clause-kept : goal.returns-in-Reads-clause-kept
 returns-in-Reads-clause-kept c = record { store = c.call-in-Reads.ensures.kept; page = page_same c.args.w c.args.page.now; host = host_here c.args.page.now; holds = c.call-in-Reads.ensures.holds }
@@ -145,6 +145,6 @@ returns-in-Writes-clause-native c =
     let n = c.call-in-Writes.new in
     let plan = run_native c.args.native.now.which this vs in
     as_called w (reach s p l b log posts) (reach n.store n.page n.around n.bubbled log posts) c.args.meter.now n.meter c.args.native.now.which this this vs ws c.call-in-Writes.result refl same
-    (IfOk-weaker c.call-in-Writes.result (MeetsAt w (beside s p l b) (beside n.store n.page n.around n.bubbled) c.args.meter.now n.meter plan)
-    (MeetsWhole w (reach s p l b log posts) (reach n.store n.page n.around n.bubbled log posts) c.args.meter.now n.meter plan)
+    (IfOk-weaker c.call-in-Writes.result (RefinesAt w (beside s p l b) (beside n.store n.page n.around n.bubbled) c.args.meter.now n.meter plan)
+    (RefinesWhole w (reach s p l b log posts) (reach n.store n.page n.around n.bubbled log posts) c.args.meter.now n.meter plan)
     (λ o h. whole_at w log posts (beside s p l b) (beside n.store n.page n.around n.bubbled) c.args.meter.now n.meter plan o h) c.call-in-Writes.ensures.native)

@@ -8,7 +8,7 @@ use Rattle.widget_meaning.specs.NativeForms as forms
 use Rattle.widget_meaning.specs.GlobalNatives as globals
 use Rattle.js_image.specs.Image.{image, seen}
 use Rattle.js_values.specs.declared.outcome.NativeOut.TheVariants as native
-use Rattle.native_common.proofs.Meeting.{ends_here, meets_free, meets_same, meets_zero}
+use Rattle.native_common.proofs.Meeting.{ends_here, refines_free, refines_same, refines_zero}
 use Rattle.native_common.proofs.Seen.{ref_is_object}
 use Rattle.plain_natives.proofs.Exits.{charged_as}
 use Rattle.std.proofs.Common.{if◌then◌else◌}
@@ -22,7 +22,7 @@ use Rattle.plain_natives.proofs.conversions.string.Goals as goal
 pub returns-in-Ref-clause-native : goal.returns-in-Ref-clause-native
 returns-in-Ref-clause-native c =
     let i = c.in-Ref.i in let v = seen c.args.w c.args.store.now.cells (value.Ref i) in
-    meets_free c.args.w c.args.store.now c.args.store.now (λ d s. globals.string_of (seen c.args.w c.args.store.now.cells c.args.v.now) d s) (native.Call (calls.ToText i)) c.args.meter.now
+    refines_free c.args.w c.args.store.now c.args.store.now (λ d s. globals.string_of (seen c.args.w c.args.store.now.cells c.args.v.now) d s) (native.Call (calls.ToText i)) c.args.meter.now
     (ends_here c.args.w c.args.store.now (λ d s. globals.string_of (seen c.args.w c.args.store.now.cells c.args.v.now) d s) (native.Call (calls.ToText i))
     (λ fs r node d. ap (λ (x : StoreValue). globals.string_of (seen c.args.w c.args.store.now.cells x) d (image fs r c.args.w c.args.store.now)) c.in-Ref.is
     ∙ ap (λ b. if b then and_then (to_primitive v d (image fs r c.args.w c.args.store.now)) (after globals.text_of_primitive) else charge (globals.units_read v) (image fs r c.args.w c.args.store.now) (globals.text_of_primitive v (image fs r c.args.w c.args.store.now))) (ref_is_object c.args.w c.args.store.now.cells i))
@@ -37,8 +37,8 @@ returns-in_ok-text-in-Text-clause-native c =
 
 pub returns-in_ok-text-in_default : goal.returns-in_ok-text-in_default
 returns-in_ok-text-in_default c = record {
-  native = meets_same c.args.w c.args.store.now c.give_text.new.store (λ d s. globals.string_of (seen c.args.w c.args.store.now.cells c.args.v.now) d s) (λ d s. charge 0 s (forms.give_text 0 c.in_ok-text-in_default.text s)) c.give_text.result c.args.meter.now c.give_text.new.meter
+  native = refines_same c.args.w c.args.store.now c.give_text.new.store (λ d s. globals.string_of (seen c.args.w c.args.store.now.cells c.args.v.now) d s) (λ d s. charge 0 s (forms.give_text 0 c.in_ok-text-in_default.text s)) c.give_text.result c.args.meter.now c.give_text.new.meter
       (λ fs r d. other_string c.args.w c.args.store.now.cells c.args.v.now d (image fs r c.args.w c.args.store.now) c.in_default.not-Text c.in_default.not-Ref ∙ ap (λ (t : List ℕ). charge 0 (image fs r c.args.w c.args.store.now) (forms.give_text 0 t (image fs r c.args.w c.args.store.now))) (sym (c.in_ok-text-in_default.ensures c.args.w c.args.store.now.cells)))
-      (meets_zero c.args.w c.args.store.now c.give_text.new.store (λ d s. forms.give_text 0 c.in_ok-text-in_default.text s) c.give_text.result c.args.meter.now c.give_text.new.meter (c.give_text.ensures 0 refl));
+      (refines_zero c.args.w c.args.store.now c.give_text.new.store (λ d s. forms.give_text 0 c.in_ok-text-in_default.text s) c.give_text.result c.args.meter.now c.give_text.new.meter (c.give_text.ensures 0 refl));
   memory = tt;
 }

@@ -3,7 +3,7 @@ use Rattle.std.proofs.lemmas.Result.{IfOk-weaker}
 use Rattle.widget_meaning.specs.Natives.{run_native}
 use Rattle.js_image.specs.Image.{all_seen}
 use Rattle.native_common.specs.Receivers.{receiver}
-use Rattle.adsafe_object.proofs.Exits.{meets_silent}
+use Rattle.adsafe_object.proofs.Exits.{refines_silent}
 use Rattle.store_natives.specs.Rooms.{IsOf}
 use Rattle.store_natives.proofs.InRooms.{in_room}
 use Rattle.store_natives.proofs.calling.call_in.Goals as goal
@@ -25,11 +25,11 @@ returns-in-Texts-clause-native c =
     let w = c.args.w in
     let s = c.args.store.now in
     let plan = run_native c.args.which (receiver w s.cells c.args.this.now) (all_seen w s.cells c.args.args.now) in
-    IfOk-weaker c.call.result _ _ (λ o h. meets_silent w s c.call.new.store c.args.meter.now c.call.new.meter plan o h) c.call.ensures.native
+    IfOk-weaker c.call.result _ _ (λ o h. refines_silent w s c.call.new.store c.args.meter.now c.call.new.meter plan o h) c.call.ensures.native
 
 pub returns-in-Lists-clause-native : goal.returns-in-Lists-clause-native
 returns-in-Lists-clause-native c =
     let w = c.args.w in
     let s = c.args.store.now in
     let plan = run_native c.args.which (receiver w s.cells c.args.this.now) (all_seen w s.cells c.args.args.now) in
-    IfOk-weaker c.call-in-Lists.result _ _ (λ o h. meets_silent w s c.call-in-Lists.new.store c.args.meter.now c.call-in-Lists.new.meter plan o h) c.call-in-Lists.ensures.native
+    IfOk-weaker c.call-in-Lists.result _ _ (λ o h. refines_silent w s c.call-in-Lists.new.store c.args.meter.now c.call-in-Lists.new.meter plan o h) c.call-in-Lists.ensures.native

@@ -4,7 +4,7 @@ use Rattle.widget_meaning.specs.MathNatives as maths
 use Rattle.widget_meaning.specs.PrototypeNatives as prototypes
 use Rattle.widget_meaning.specs.TextNatives as texts
 use Rattle.js_image.specs.Image.{all_seen, image}
-use Rattle.native_common.proofs.Meeting.{ok_meets_same}
+use Rattle.native_common.proofs.Meeting.{ok_refines_same}
 use Rattle.plain_natives.proofs.Exits.{ok_at}
 use Rattle.native_common.specs.Receivers.{receiver}
 use Rattle.widget_meaning.specs.Natives.{run_native}
@@ -19,7 +19,7 @@ pub returns-in-Global-clause-native : goal.returns-in-Global-clause-native
 returns-in-Global-clause-native c =
     let this = receiver c.args.w c.args.store.now.cells c.args.this.now in
     let vs = all_seen c.args.w c.args.store.now.cells c.args.args.now in
-    ok_meets_same c.args.w c.args.store.now c.global_native.new.store (run_native c.args.which this vs) (globals.global_native c.in-Global.native None vs) c.global_native.result c.args.meter.now c.global_native.new.meter
+    ok_refines_same c.args.w c.args.store.now c.global_native.new.store (run_native c.args.which this vs) (globals.global_native c.in-Global.native None vs) c.global_native.result c.args.meter.now c.global_native.new.meter
     (λ fs r d. ap (λ n. run_native n this vs d (image fs r c.args.w c.args.store.now)) c.in-Global.is ∙ global_alone c.in-Global.native this vs d (image fs r c.args.w c.args.store.now))
     c.global_native.ensures.native
 
@@ -35,7 +35,7 @@ pub returns-in-Prototype-clause-native : goal.returns-in-Prototype-clause-native
 returns-in-Prototype-clause-native c =
     let this = receiver c.args.w c.args.store.now.cells c.args.this.now in
     let vs = all_seen c.args.w c.args.store.now.cells c.args.args.now in
-    ok_meets_same c.args.w c.args.store.now c.prototype_native.new.store (run_native c.args.which this vs) (prototypes.prototype_native c.in-Prototype.native this vs) c.prototype_native.result c.args.meter.now c.prototype_native.new.meter
+    ok_refines_same c.args.w c.args.store.now c.prototype_native.new.store (run_native c.args.which this vs) (prototypes.prototype_native c.in-Prototype.native this vs) c.prototype_native.result c.args.meter.now c.prototype_native.new.meter
     (λ fs r d. ap (λ n. run_native n this vs d (image fs r c.args.w c.args.store.now)) c.in-Prototype.is)
     c.prototype_native.ensures.native
 
@@ -43,6 +43,6 @@ pub returns-in-Text-clause-native : goal.returns-in-Text-clause-native
 returns-in-Text-clause-native c =
     let this = receiver c.args.w c.args.store.now.cells c.args.this.now in
     let vs = all_seen c.args.w c.args.store.now.cells c.args.args.now in
-    ok_meets_same c.args.w c.args.store.now c.text_native.new.store (run_native c.args.which this vs) (λ d s. texts.text_native c.in-Text.native this vs s) c.text_native.result c.args.meter.now c.text_native.new.meter
+    ok_refines_same c.args.w c.args.store.now c.text_native.new.store (run_native c.args.which this vs) (λ d s. texts.text_native c.in-Text.native this vs s) c.text_native.result c.args.meter.now c.text_native.new.meter
     (λ fs r d. ap (λ n. run_native n this vs d (image fs r c.args.w c.args.store.now)) c.in-Text.is)
     c.text_native.ensures.native

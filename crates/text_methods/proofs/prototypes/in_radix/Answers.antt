@@ -2,7 +2,7 @@ use Rattle.std.proofs.Common.{◌≡◌, refl, sym, ap, ◌∙◌, pos, rules}
 use mir.Val.{of_z, to_z}
 use mir.Syntax.{w64}
 use Rattle.js_image.specs.declared.outcome.Fault.TheVariants as fault
-use Rattle.native_common.proofs.Meeting.{ends_same, meets_free}
+use Rattle.native_common.proofs.Meeting.{ends_same, refines_free}
 use Rattle.store_cells.specs.declared.value.Value.TheVariants as value
 use Rattle.widget_meaning.specs.Values as meaning
 use Rattle.widget_meaning.specs.Costs as costs
@@ -27,7 +27,7 @@ returns-in_ok-text-in-Some-valid_radix-clause-native c =
     let n = plain (value.Num c.args.n) in
     let same : to_z w64 (of_z w64 c.in-Some.r) ≡ c.in-Some.r = search rules in
     let given = c.in-Some-valid_radix.ensures in
-    meets_free w old c.make_text.new.store (λ d s. prototypes.in_radix n radix s) c.make_text.result c.args.meter.now
+    refines_free w old c.make_text.new.store (λ d s. prototypes.in_radix n radix s) c.make_text.result c.args.meter.now
     (ends_same w old c.make_text.new.store (λ d s. prototypes.in_radix n radix s) (λ d s. costs.make_text c.in_ok-text-in-Some-valid_radix.text s (costs.give (meaning.Text c.in_ok-text-in-Some-valid_radix.text))) c.make_text.result
     (λ fs r d. radix_given n radix (image fs r w old) c.in-Some.r c.in-Some-valid_radix.base c.in_ok-text-in-Some-valid_radix.text (sym c.if-is_object.false ∙ c.is_object.ensures.object w old.cells) (c.in-Some.ensures w old.cells) (ap prototypes.is_radix (sym same) ∙ given.0) (given.1 ∙ same) c.in_ok-text-in-Some-valid_radix.ensures)
     c.make_text.ensures)

@@ -5,7 +5,7 @@ use Rattle.widget_meaning.specs.NativeForms as forms
 use Rattle.widget_meaning.specs.TextNatives as texts
 use Rattle.js_image.specs.Image.{image, seen}
 use Rattle.native_common.specs.Numbers.{counted}
-use Rattle.native_common.proofs.Meeting.{ok_charged, ok_ends_same, ok_meets_same}
+use Rattle.native_common.proofs.Meeting.{ok_charged, ok_ends_same, ok_refines_same}
 use Rattle.plain_natives.proofs.Exits.{wants_one}
 use Rattle.text_methods.proofs.SplitPlans.{asked_is, few_units, split_is}
 use Rattle.text_methods.proofs.splitting.split_by.Goals as goal
@@ -47,7 +47,7 @@ returns-in-Ok-clause-native c =
     asked_is c.text_len.result c.text_len-2.result (sum_by length ps) c.saturating_add-read.result c.units_in-made.result c.saturating_add-extra.result (omega (arith, c.saturating_add-read.ensures)) made (omega (arith, c.saturating_add-extra.ensures))
     ∙ (λ j. counted (first j + (second j + total j))) in
     let t = c.in-Ok.ensures.ok n asked in
-    ok_meets_same w old c.give_texts.new.store (λ d s. texts.split c.args.t.now v s) (λ d s. charge n s (forms.give_texts all s)) c.give_texts.result c.args.meter.now c.take.new.meter
+    ok_refines_same w old c.give_texts.new.store (λ d s. texts.split c.args.t.now v s) (λ d s. charge n s (forms.give_texts all s)) c.give_texts.result c.args.meter.now c.take.new.meter
     (λ fs r d. split_is w old.cells c.args.t.now c.args.x.now (image fs r w old) c.requires.there
     ∙ wants_one v (image fs r w old) (charge n (image fs r w old) (forms.give_texts all (image fs r w old))) (sym c.if-is_object.false ∙ c.is_object.ensures.object w old.cells))
     (ok_charged w old c.give_texts.new.store n (λ d s. forms.give_texts all s) c.give_texts.result c.args.meter.now c.take.new.meter t.0 t.1

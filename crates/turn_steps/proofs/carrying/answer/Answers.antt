@@ -2,7 +2,7 @@ use Rattle.std.proofs.Common.{None, ap, ◌∙◌, subst}
 use Rattle.js_values.specs.Answers.{IsFineOut}
 use Rattle.js_values.specs.declared.outcome.NativeOut.TheVariants as native
 use Rattle.native_image.specs.Image.{beside}
-use Rattle.native_image.specs.Meets.{FiresAtOwn}
+use Rattle.native_image.specs.Refines.{FiresAtOwn}
 use Rattle.turn_steps.proofs.Answering.{nodes_own}
 use Rattle.turn_steps.proofs.carrying.answer.Goals as goal
 

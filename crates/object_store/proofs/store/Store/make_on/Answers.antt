@@ -3,7 +3,7 @@ use Rattle.store_cells.specs.declared.cell.Head.{Head}
 use Rattle.store_cells.specs.Numbered.{NumberedCell, heads, first_numbered, plain, own_head}
 use Rattle.store_cells.specs.declared.counts.Counts.{Counts}
 use Rattle.store_cells.specs.Cells.{is_bunch, node_in}
-use Rattle.store_cells.specs.Shape.{IsOrdered, IsFine, links_at}
+use Rattle.store_cells.specs.Shape.{IsOrdered, IsWellFormed, links_at}
 use Rattle.store_cells.specs.Born.{new_cell}
 use Rattle.store_cells.specs.Costs.{cost_refusal}
 use Rattle.store_cells.proofs.Makes.{first_fine, bunch_in_store, links_in_store, scope_in_store, scopes_in_store, length_in_store, new_ordered, first_plain, added_cells, added_heads, added_closed, made_is, kept_in_store, own_visible, visible_no_node}
@@ -27,7 +27,7 @@ add-requires-clause-ordered c =
 
 pub add-requires-clause-fine : goal.add-requires-clause-fine
 add-requires-clause-fine c =
-    let s = c.self in subst (λ (x : NumberedCell). IsFine s.inside.names (length s.inside.cells.items + 1) x) (sym c.in_ok-cell.ensures) (first_fine s.inside.names (length s.inside.cells.items + 1) s.invariant.base.table s.invariant.base.words c.head_on-head.result)
+    let s = c.self in subst (λ (x : NumberedCell). IsWellFormed s.inside.names (length s.inside.cells.items + 1) x) (sym c.in_ok-cell.ensures) (first_fine s.inside.names (length s.inside.cells.items + 1) s.invariant.base.table s.invariant.base.words c.head_on-head.result)
 
 pub returns-clause-ok : goal.returns-clause-ok
 returns-clause-ok c =

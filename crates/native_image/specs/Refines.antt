@@ -29,8 +29,8 @@ pub record EndsAt (w : ℕ) (old new : Parts) (plan : ℕ → State → Plan) (o
   pub fires : FiresAtOwn w new o
   pub sound : IsSound w new.store new.page new.around
 
--- An answer meets a plan of widget w, with the fuel before and after it: it is what the plan gives, of what the widget may hold; all fuel that was taken was spent; nothing changed where fuel is wanting; and all is sound.
-pub record MeetsAt (w : ℕ) (old new : Parts) (had has : Fuel) (plan : ℕ → State → Plan) (o : NativeOut) : Type 0 where
+-- An answer refines a plan of widget w, with the fuel before and after it: it is what the plan gives, of what the widget may hold; all fuel that was taken was spent; nothing changed where fuel is wanting; and all is sound.
+pub record RefinesAt (w : ℕ) (old new : Parts) (had has : Fuel) (plan : ℕ → State → Plan) (o : NativeOut) : Type 0 where
   pub answer : (fs : List Forest) (x : Outside) (d : ℕ) → Answers (seen w new.store.cells) (number new.page w) d (plan d (image fs x w old)) (image fs x w old) o (image fs x w new) had.left has.left
   pub fine : IsFineOut w new.store.cells o
   pub fires : FiresAtOwn w new o
@@ -38,6 +38,6 @@ pub record MeetsAt (w : ℕ) (old new : Parts) (had has : Fuel) (plan : ℕ → 
   pub unpaid : IsOutOfFuel o → (new ≡ old) × (has ≡ had)
   pub sound : IsSound w new.store new.page new.around
 
--- An answer of a native that reads page and loop and leaves them meets its plan, whatever runs around it.
+-- An answer of a native that reads page and loop and leaves them refines its plan, whatever runs around it.
 pub record Reads (w : ℕ) (old new : Cells) (p : Page) (l : Loop) (had has : Fuel) (plan : ℕ → State → Plan) (o : NativeOut) : Type 0 where
-  pub meets : (b : Option Bool) → MeetsAt w (beside old p l b) (beside new p l b) had has plan o
+  pub refines : (b : Option Bool) → RefinesAt w (beside old p l b) (beside new p l b) had has plan o

@@ -16,8 +16,8 @@ pub record Ends (w : ℕ) (old new : Cells) (plan : ℕ → State → Plan) (o :
   pub fine : IsFineOut w new.cells o
   pub kept : (fs : List Forest) → Kept fs w old new
 
--- An answer meets a plan of widget w, with the fuel before and after it: it is what the plan gives, the widget may hold it, all fuel that was taken was spent, nothing changed where fuel is wanting, and the widget keeps what it had.
-pub record Meets (w : ℕ) (old new : Cells) (had has : Fuel) (plan : ℕ → State → Plan) (o : NativeOut) : Type 0 where
+-- An answer refines a plan of widget w, with the fuel before and after it: it is what the plan gives, the widget may hold it, all fuel that was taken was spent, nothing changed where fuel is wanting, and the widget keeps what it had.
+pub record Refines (w : ℕ) (old new : Cells) (had has : Fuel) (plan : ℕ → State → Plan) (o : NativeOut) : Type 0 where
   pub answer : (fs : List Forest) (r : Rest) (node : ℕ → ℕ) (d : ℕ) → Answers (seen w new.cells) node d (plan d (image fs r w old)) (image fs r w old) o (image fs r w new) had.left has.left
   pub fine : IsFineOut w new.cells o
   pub spent : has.left + has.spent ≡ had.left + had.spent

@@ -14,7 +14,7 @@ use Rattle.js_values.specs.Answers.{Answers, IsFineOut, IsOutOfFuel}
 use Rattle.js_values.specs.Fuel.{Fuel}
 use Rattle.js_values.specs.declared.outcome.NativeOut.{NativeOut}
 use Rattle.native_image.specs.Image.{Outside}
-use Rattle.native_image.specs.Meets.{FiresAtOwn}
+use Rattle.native_image.specs.Refines.{FiresAtOwn}
 use Rattle.native_image.specs.Sound.{IsSound}
 use Rattle.natives.specs.Reach.{Reach, state}
 
@@ -22,8 +22,8 @@ use Rattle.natives.specs.Reach.{Reach, state}
 abbrev pub plan_of : ℕ → List PlainCell → NativeCall → ℕ → State → Plan
 plan_of w cells c d s = run_native c.which (option_map (seen w cells) c.this) (all_seen w cells c.args.items) d s
 
--- An answer meets a plan of widget w, with all that a native may change and the fuel before and after it. It is what the plan gives, where the widget was confined, for every rest of its state and every call depth; it is of what the widget may hold, and the nodes at which handlers are asked for are its own; all fuel that was taken was spent; nothing changed where fuel is wanting; and store, page and loop are sound.
-pub record MeetsWhole (w : ℕ) (old new : Reach) (had has : Fuel) (plan : ℕ → State → Plan) (o : NativeOut) : Type 0 where
+-- An answer refines a plan of widget w, with all that a native may change and the fuel before and after it. It is what the plan gives, where the widget was confined, for every rest of its state and every call depth; it is of what the widget may hold, and the nodes at which handlers are asked for are its own; all fuel that was taken was spent; nothing changed where fuel is wanting; and store, page and loop are sound.
+pub record RefinesWhole (w : ℕ) (old new : Reach) (had has : Fuel) (plan : ℕ → State → Plan) (o : NativeOut) : Type 0 where
   pub answer : (fs : List Forest) (x : Outside) (d : ℕ) → IsConfined fs w old.parts.store
       → Answers (seen w new.parts.store.cells) (number new.parts.page w) d (plan d (state fs x w old)) (state fs x w old) o (state fs x w new) had.left has.left
   pub fine : IsFineOut w new.parts.store.cells o
