@@ -5,8 +5,8 @@ ghost use Rattle.code_units.specs.Feeding.{word, last, input};
 
 use std::hash::Hasher;
 
-// Feeds a hasher with a text.
-pub(crate) fn feed<H: Hasher>(units: &[u16], state: &mut H)
+/// Feeds a hasher with the units of a text, as the `Hash` of [`Text`](crate::Text) does.
+pub fn feed<H: Hasher>(units: &[u16], state: &mut H)
     ensures { state.new ≡ fold H.write state.old (input units.now) }
 {
     let mut at = 0;

@@ -16,6 +16,7 @@ mod whole;
 mod word;
 
 pub use digit::hex_digit;
+pub use feeding::feed;
 pub use grown::{push_ascii, push_char};
 pub use index::{MAX_LENGTH, index_of};
 pub use memory::Memory;
