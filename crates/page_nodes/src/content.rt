@@ -30,11 +30,11 @@ pub fn text_of(content: &Content) -> Option<&Text>
 }
 
 // The value of the first attribute with a name.
-fn value_of<'a>(attributes: &'a Vec<(Text, Text)>, name: &Text) -> Option<&'a Text>
+fn value_of<'a>(attributes: &'a Vec<(Text, Text)>, name: &[u16]) -> Option<&'a Text>
     ensures { option_copied result ≡ value_of name.now attributes.now.items }
 {
     'each: for attribute in attributes {
-        if attribute.0 == *name {
+        if attribute.0.units() == name {
             return Some(&attribute.1);
         }
     }
@@ -42,7 +42,7 @@ fn value_of<'a>(attributes: &'a Vec<(Text, Text)>, name: &Text) -> Option<&'a Te
 }
 
 /// The value of an attribute.
-pub fn attribute_of<'a>(content: &'a Content, name: &Text) -> Option<&'a Text>
+pub fn attribute_of<'a>(content: &'a Content, name: &[u16]) -> Option<&'a Text>
     ensures { option_copied result ≡ attribute_of name.now (label_of content.now) }
 {
     match content {

@@ -520,7 +520,7 @@ impl Page {
     }
 
     /// The value of an attribute, none exactly where the node has none of that name.
-    pub fn attr(&self, node: NodeId, name: &Text) -> Option<&Text>
+    pub fn attr(&self, node: NodeId, name: &[u16]) -> Option<&Text>
         requires { node < length (nodes self.now) }
         ensures { option_copied result ≡ attribute_of name.now (at (nodes self.now) node).label }
     {

@@ -84,11 +84,11 @@ fn prints_pairs(units: &[u16], text: &[u16]) -> Option<bool>
 }
 
 /// Whether a text is the printed form of a style. What is no style is its own printed form.
-pub fn prints_as(style: &Text, text: &Text) -> bool
+pub fn prints_as(style: &Text, text: &[u16]) -> bool
     ensures { result ≡ bytes_eq (style_form style.now) text.now }
 {
-    match prints_pairs(style.units(), text.units()) {
+    match prints_pairs(style.units(), text) {
         Some(same) => same,
-        None => *style == *text,
+        None => style.units() == text,
     }
 }
