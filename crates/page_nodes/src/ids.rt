@@ -130,6 +130,11 @@ impl Ids {
         Ok(Ids { alloc, owners })
     }
 
+    /// The keys by which the tables hash.
+    pub fn keys(&self) -> Keys {
+        *self.owners[0].hasher()
+    }
+
     /// The nodes of an owner with an id.
     pub fn get(&self, slot: usize, id: &Text) -> &[u32]
         requires { slot < 33 }

@@ -105,6 +105,11 @@ impl Page {
         })
     }
 
+    /// The keys by which its table of ids hashes, for tables of other texts that strangers choose.
+    pub fn keys(&self) -> Keys {
+        self.ids.keys()
+    }
+
     /// A law: the links from nodes to their children and to their parents agree, and what is below a
     /// node has its owner, but under `body`. No node is below itself, and no chain of links that does
     /// not begin at `body` is longer than 200. A root is its owner's and stands under `body` or has
