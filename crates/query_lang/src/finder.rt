@@ -7,25 +7,28 @@ ghost use Rattle.page_tree.specs.Pages.{nodes, root};
 ghost use Rattle.query_walks.specs.Nodes.{passes};
 ghost use Rattle.query_walks.specs.Finds.{hunted, in_order, filtered, all_filtered, finds, AreOwned};
 ghost use Rattle.query_grammar.specs.Finds.{at_places, sifted};
+ghost use Rattle.query_grammar.specs.Spelled.{filters_of, AreFilters};
 ghost use Rattle.query_walks.specs.Walks.{AreNodes};
 
 use code_units::{Memory, Owner};
 use page_tree::{NodeId, Page};
-use query_grammar::{Filter, ListFilter, Query, QueryStep, StepFilter};
+use query_grammar::{Filter, Filters, ListFilter, Query, QueryStep, StepFilter};
+use query_text::first_filter;
 use query_walks::failed::{is_needed, mark_all_failed};
 use query_walks::hunt::hunt_all;
 use query_walks::nodes::test;
+use query_walks::once::{behind, each_once};
 use query_walks::order::in_order;
 use std::alloc::Global;
 
-// The most filters of a step that are tried one by one.
-const FEW: usize = 32;
+// The most units of a step's filters that are tried one by one.
+const LONG: usize = 256;
 
 // Keeps a node if it passes.
 fn keep_one(
     page: &Page,
     focus: Option<NodeId>,
-    by: &Filter,
+    by: &Filter<'_>,
     node: NodeId,
     kept: &mut Vec<NodeId>,
 ) -> Result<(), Memory>
@@ -44,7 +47,7 @@ fn keep(
     alloc: Global,
     page: &Page,
     focus: Option<NodeId>,
-    by: &Filter,
+    by: &Filter<'_>,
     list: &[NodeId],
 ) -> Result<Vec<NodeId>, Memory>
     requires { AreNodes page.now list.now }
@@ -98,7 +101,7 @@ fn filter_one(
     alloc: Global,
     page: &Page,
     focus: Option<NodeId>,
-    filter: &StepFilter,
+    filter: &StepFilter<'_>,
     list: Vec<NodeId>,
 ) -> Result<Vec<NodeId>, Memory>
     requires { AreNodes page.now list.items }
@@ -115,7 +118,7 @@ fn filter_needed(
     alloc: Global,
     page: &Page,
     focus: Option<NodeId>,
-    filter: &StepFilter,
+    filter: &StepFilter<'_>,
     needed: bool,
     list: Vec<NodeId>,
 ) -> Result<Vec<NodeId>, Memory>
@@ -134,7 +137,7 @@ fn filter_many(
     alloc: Global,
     page: &Page,
     focus: Option<NodeId>,
-    filters: &[StepFilter],
+    filters: &[StepFilter<'_>],
     list: Vec<NodeId>,
 ) -> Result<Vec<NodeId>, Memory>
     requires { AreNodes page.now list.items }
@@ -154,17 +157,38 @@ fn filter_few(
     alloc: Global,
     page: &Page,
     focus: Option<NodeId>,
-    filters: &[StepFilter],
+    units: &[u16],
     list: Vec<NodeId>,
 ) -> Result<Vec<NodeId>, Memory>
-    requires { AreNodes page.now list.items }
-    ensures { IfOk result (λ kept. kept.items ≡ all_filtered (nodes page.now) focus filters.now list.items) }
+    requires nodes { AreNodes page.now list.items }
+    requires filters { AreFilters units.now }
+    ensures { IfOk result (λ kept. kept.items
+        ≡ all_filtered (nodes page.now) focus (filters_of units.now) list.items) }
 {
     let mut kept = list;
-    'each: for filter in filters {
-        kept = filter_one(alloc, page, focus, filter, kept)?;
+    let mut rest = units;
+    'each: while let Some((filter, end)) = first_filter(rest) {
+        kept = filter_one(alloc, page, focus, &filter, kept)?;
+        rest = behind(rest, end);
     }
     Ok(kept)
+}
+
+// The nodes that filters keep, each filter tried once.
+fn filter_long(
+    alloc: Global,
+    page: &Page,
+    focus: Option<NodeId>,
+    units: &[u16],
+    list: Vec<NodeId>,
+) -> Result<Vec<NodeId>, Memory>
+    requires nodes { AreNodes page.now list.items }
+    requires filters { AreFilters units.now }
+    ensures { IfOk result (λ kept. kept.items
+        ≡ all_filtered (nodes page.now) focus (filters_of units.now) list.items) }
+{
+    let filters = each_once(alloc, page.keys(), units, list.len())?;
+    filter_many(alloc, page, focus, &filters, list)
 }
 
 // The nodes that filters keep.
@@ -172,16 +196,20 @@ fn filter_all(
     alloc: Global,
     page: &Page,
     focus: Option<NodeId>,
-    filters: &[StepFilter],
+    filters: &Filters,
     list: Vec<NodeId>,
 ) -> Result<Vec<NodeId>, Memory>
     requires { AreNodes page.now list.items }
     ensures { IfOk result (λ kept. kept.items ≡ all_filtered (nodes page.now) focus filters.now list.items) }
 {
-    if filters.len() > FEW {
-        return filter_many(alloc, page, focus, filters, list);
+    if list.is_empty() {
+        return Ok(list);
     }
-    filter_few(alloc, page, focus, filters, list)
+    let units = filters.units();
+    if units.len() > LONG {
+        return filter_long(alloc, page, focus, units, list);
+    }
+    filter_few(alloc, page, focus, units, list)
 }
 
 // What a step finds from nodes of an owner.

@@ -1,16 +1,13 @@
 -- Filters that nodes fail first.
-use Rattle.std.proofs.Common.{◌≡◌, ℕ, zero, suc, ◌+◌, ◌<◌, ◌≤◌, List, [], ◌∷◌, ◌++◌, Bool, true, false, not, ◌||◌, refl, sym, ap, ◌∙◌, subst, length, take, drop, get_or, cond, arith, eqb, eqb-true, Option, ⊎_elim}
+use Rattle.std.proofs.Common.{◌≡◌, ℕ, zero, suc, ◌+◌, ◌<◌, ◌≤◌, List, [], ◌∷◌, ◌++◌, Bool, true, false, not, ◌||◌, refl, sym, ap, ◌∙◌, length, take, drop, get_or, cond, arith, eqb, eqb-true, Option, ⊎_elim}
 use Rattle.std.specs.Prelude.{set, ◌==◌}
-use Rattle.std.specs.declared.cmp.Ordering.{Ordering}
-use Rattle.std.specs.declared.cmp.Ordering.TheVariants.{Less, Equal, Greater}
-use Rattle.std.specs.Ordering.{nat_cmp, is_eq}
-use Rattle.std.specs.Cmp.Lexicographic.{slice_cmp, bytes_decides}
-use Rattle.std.specs.BTreeSet.{insert_key}
+use Rattle.std.specs.Cmp.Lexicographic.{bytes_decides}
 use Rattle.std.specs.List.{filter, list_any, position_or_len}
 use Rattle.std.specs.Str.{bytes_eq}
 use Rattle.std.proofs.lemmas.Bool.{or_cases, cases_eq}
 use Rattle.std.proofs.lemmas.List.{at_drop_more, at_drop_all, take_more, take_all, get_or-set_same, get_or-set_other}
-use Rattle.std.proofs.lemmas.Map.Text.{is_eq-slice_cmp}
+use Rattle.std.proofs.lemmas.List.Folds.{list_any-append}
+use Rattle.indexmap.specs.IndexSet.{insert_key}
 use Rattle.page_tree.specs.Entries.{Entry}
 use Rattle.query_grammar.specs.declared.query.StepFilter.{StepFilter}
 use Rattle.query_grammar.specs.declared.query.StepFilter.TheVariants as kind
@@ -141,61 +138,44 @@ module _ (k : List Entry) (focus : Option ℕ) (fs : List StepFilter) (marks : L
 
 -- ## Words in a set
 
-module _ {K : Type 0} (text : K → List ℕ) where
-  abbrev by_text : K → K → Ordering
-  by_text x y = slice_cmp nat_cmp (text x) (text y)
+turned : (a b : Bool) → (a || b) ≡ (b || (a || false))
+turned true true = refl
+turned true false = refl
+turned false true = refl
+turned false false = refl
 
-  abbrev pub has_text : List K → List ℕ → Bool
-  has_text ks w = list_any (λ k. bytes_eq w (text k)) ks
+moved : (a b c : Bool) → ((a || b) || c) ≡ (b || (a || c))
+moved true true c = refl
+moved true false c = refl
+moved false true c = refl
+moved false false c = refl
 
-  swapped : (a b c : Bool) → (a || (b || c)) ≡ (b || (a || c))
-  swapped true true c = refl
-  swapped true false c = refl
-  swapped false true c = refl
-  swapped false false c = refl
+-- a word that is there adds none
+is_there : (ks : List (List ℕ)) (k w : List ℕ) → list_any (bytes_eq k) ks ≡ true → list_any (bytes_eq w) ks ≡ (bytes_eq w k || list_any (bytes_eq w) ks)
+is_there ks k w there = by_test (bytes_eq w k) refl
+  where
+    by_test : (b : Bool) → bytes_eq w k ≡ b → list_any (bytes_eq w) ks ≡ (b || list_any (bytes_eq w) ks)
+    by_test true e = ap (λ v. list_any (bytes_eq v) ks) ((bytes_decides w k).0 e) ∙ there
+    by_test false e = refl
 
-  twice : (a b : Bool) → (a || b) ≡ (a || (a || b))
-  twice true b = refl
-  twice false b = refl
+pub word_added : (ks : List (List ℕ)) (k w : List ℕ) → list_any (bytes_eq w) (insert_key bytes_eq ks k) ≡ (bytes_eq w k || list_any (bytes_eq w) ks)
+word_added ks k w = by_test (list_any (bytes_eq k) ks) refl
+  where
+    by_test : (b : Bool) → list_any (bytes_eq k) ks ≡ b → list_any (bytes_eq w) (cond b ks (ks ++ k ∷ [])) ≡ (bytes_eq w k || list_any (bytes_eq w) ks)
+    by_test true e = is_there ks k w e
+    by_test false e = list_any-append (bytes_eq w) ks (k ∷ []) ∙ sym (turned (bytes_eq w k) (list_any (bytes_eq w) ks))
 
-  pub word_added : (ks : List K) (k : K) (w : List ℕ) → has_text (insert_key by_text ks k) w ≡ (bytes_eq w (text k) || has_text ks w)
-  word_added [] k w = refl
-  word_added (x ∷ ks) k w = by_order (by_text k x) refl (word_added ks k w)
-    where
-      by_order : (o : Ordering) → by_text k x ≡ o → has_text (insert_key by_text ks k) w ≡ (bytes_eq w (text k) || has_text ks w) → has_text (insert_key by_text (x ∷ ks) k) w ≡ (bytes_eq w (text k) || has_text (x ∷ ks) w)
-      by_order Less e more = rw e refl
-      by_order Equal e more =
-          let same : text k ≡ text x = (bytes_decides (text k) (text x)).0 (sym (is_eq-slice_cmp (text k) (text x)) ∙ ap is_eq e) in
-          rw e (ap (λ y. bytes_eq w y || has_text ks w) (sym same) ∙ twice (bytes_eq w (text k)) (has_text ks w) ∙ ap (λ y. bytes_eq w (text k) || (bytes_eq w y || has_text ks w)) same)
-      by_order Greater e more = rw e (ap (λ b. bytes_eq w (text x) || b) more ∙ swapped (bytes_eq w (text x)) (bytes_eq w (text k)) (has_text ks w))
+-- the last word of a text put into the set, and one before others
+module _ (ks new : List (List ℕ)) (k us : List ℕ) (end : ℕ) (w : List ℕ) where
+  pub last_added : new ≡ insert_key bytes_eq ks k → k ≡ take end us → end ≡ position_or_len (λ u. u == 32) us → end ≡ length us → list_any (bytes_eq w) new ≡ (list_any (bytes_eq w) ks || list_any (bytes_eq w) (words us))
+  last_added e is at ends =
+      ap (list_any (bytes_eq w)) e ∙ word_added ks k w
+      ∙ ap (λ y. bytes_eq w y || list_any (bytes_eq w) ks) (is ∙ take_all end us (omega (arith, ends)))
+      ∙ turned (bytes_eq w us) (list_any (bytes_eq w) ks)
+      ∙ ap (λ l. list_any (bytes_eq w) ks || list_any (bytes_eq w) l) (sym (whole us (sym ends ∙ at)))
 
-  pub looked_up : (ks : List K) (w : List ℕ) → list_any (λ k. is_eq (slice_cmp nat_cmp w (text k))) ks ≡ has_text ks w
-  looked_up [] w = refl
-  looked_up (k ∷ ks) w = (λ i. is_eq-slice_cmp w (text k) i || looked_up ks w i)
-
-  turned : (a b : Bool) → (a || b) ≡ (b || (a || false))
-  turned true true = refl
-  turned true false = refl
-  turned false true = refl
-  turned false false = refl
-
-  moved : (a b c : Bool) → ((a || b) || c) ≡ (b || (a || c))
-  moved true true c = refl
-  moved true false c = refl
-  moved false true c = refl
-  moved false false c = refl
-
-  -- the last word of a text put into the set, and one before others
-  module _ (ks new : List K) (k : K) (us : List ℕ) (end : ℕ) (w : List ℕ) where
-    pub last_added : new ≡ insert_key by_text ks k → text k ≡ take end us → end ≡ position_or_len (λ u. u == 32) us → end ≡ length us → has_text new w ≡ (has_text ks w || list_any (bytes_eq w) (words us))
-    last_added e is at ends =
-        ap (λ l. has_text l w) e ∙ word_added ks k w
-        ∙ ap (λ y. bytes_eq w y || has_text ks w) (is ∙ take_all end us (omega (arith, ends)))
-        ∙ turned (bytes_eq w us) (has_text ks w)
-        ∙ ap (λ l. has_text ks w || list_any (bytes_eq w) l) (sym (whole us (sym ends ∙ at)))
-
-    pub next_added : new ≡ insert_key by_text ks k → text k ≡ take end us → end ≡ position_or_len (λ u. u == 32) us → end < length us → (has_text new w || list_any (bytes_eq w) (words (drop (end + 1) us))) ≡ (has_text ks w || list_any (bytes_eq w) (words us))
-    next_added e is at lt =
-        ap (λ b. b || list_any (bytes_eq w) (words (drop (end + 1) us))) (ap (λ l. has_text l w) e ∙ word_added ks k w ∙ ap (λ y. bytes_eq w y || has_text ks w) is)
-        ∙ moved (bytes_eq w (take end us)) (has_text ks w) (list_any (bytes_eq w) (words (drop (end + 1) us)))
-        ∙ ap (λ l. has_text ks w || list_any (bytes_eq w) l) (sym (parts us end at lt))
+  pub next_added : new ≡ insert_key bytes_eq ks k → k ≡ take end us → end ≡ position_or_len (λ u. u == 32) us → end < length us → (list_any (bytes_eq w) new || list_any (bytes_eq w) (words (drop (end + 1) us))) ≡ (list_any (bytes_eq w) ks || list_any (bytes_eq w) (words us))
+  next_added e is at lt =
+      ap (λ b. b || list_any (bytes_eq w) (words (drop (end + 1) us))) (ap (list_any (bytes_eq w)) e ∙ word_added ks k w ∙ ap (λ y. bytes_eq w y || list_any (bytes_eq w) ks) is)
+      ∙ moved (bytes_eq w (take end us)) (list_any (bytes_eq w) ks) (list_any (bytes_eq w) (words (drop (end + 1) us)))
+      ∙ ap (λ l. list_any (bytes_eq w) ks || list_any (bytes_eq w) l) (sym (parts us end at lt))

@@ -7,4 +7,5 @@ pub mod Members
 pub mod Ordered
 pub mod Rising
 pub mod Siblings
+pub mod Thinned
 pub mod WithId

@@ -1,4 +1,5 @@
-pub mod FirstFailed
 pub mod Finds
+pub mod FirstFailed
 pub mod Nodes
+pub mod Thinned
 pub mod Walks

@@ -10,22 +10,25 @@ ghost use Rattle.query_walks.specs.FirstFailed.{fails, failed_at, is_on_list};
 ghost use Rattle.query_walks.specs.Walks.{AreNodes};
 
 use crate::nodes::{test, units_behind, word_end};
+use crate::word::{Word, Words};
 use code_units::Memory;
+use indexmap::IndexSet;
+use keyed_names::Keys;
 use page_tree::{NodeId, Page};
 use query_grammar::{Filter, StepFilter};
 use std::alloc::Global;
-use std::collections::BTreeSet;
 
 // The words between spaces, to be looked up.
-fn word_set(alloc: Global, units: &[u16]) -> Result<BTreeSet<&[u16]>, Memory>
+fn word_set(alloc: Global, keys: Keys, units: &[u16]) -> Result<Words<'_>, Memory>
     ensures { IfOk result (λ set. (w : List ℕ)
-        → list_any (λ k. bytes_eq w k.now) set.keys ≡ list_any (bytes_eq w) (words units.now)) }
+        → list_any (bytes_eq w) set.keys ≡ list_any (bytes_eq w) (words units.now)) }
 {
-    let mut set = BTreeSet::new(alloc);
+    let mut set = IndexSet::with_hasher(alloc, keys);
     let mut rest = units;
     'words: loop {
         let end = word_end(rest);
-        set.insert(&rest[..end])?;
+        let word = Word::new(&rest[..end]);
+        set.insert(word)?;
         if end == rest.len() {
             return Ok(set);
         }
@@ -34,22 +37,22 @@ fn word_set(alloc: Global, units: &[u16]) -> Result<BTreeSet<&[u16]>, Memory>
 }
 
 // The words of a node's class.
-fn class_words(alloc: Global, page: &Page, node: NodeId) -> Result<BTreeSet<&[u16]>, Memory>
+fn class_words(alloc: Global, page: &Page, node: NodeId) -> Result<Words<'_>, Memory>
     requires { node < length (nodes page.now) }
     ensures { IfOk result (λ set. (w : List ℕ)
-        → list_any (λ k. bytes_eq w k.now) set.keys ≡ has_class (look (nodes page.now) node) w) }
+        → list_any (bytes_eq w) set.keys ≡ has_class (look (nodes page.now) node) w) }
 {
     match page.attr_of_word(node, b"class") {
-        Some(classes) => word_set(alloc, classes.units()),
-        None => Ok(BTreeSet::new(alloc)),
+        Some(classes) => word_set(alloc, page.keys(), classes.units()),
+        None => Ok(IndexSet::with_hasher(alloc, page.keys())),
     }
 }
 
 // Whether a word is in a set.
-fn is_among<'a>(set: &BTreeSet<&'a [u16]>, word: &'a [u16]) -> bool
-    ensures { result ≡ list_any (λ k. bytes_eq word.now k.now) set.now.keys }
+fn is_among<'a>(set: &Words<'a>, word: &'a [u16]) -> bool
+    ensures { result ≡ list_any (bytes_eq word.now) set.now.keys }
 {
-    set.contains(&word)
+    set.contains(&Word::new(word))
 }
 
 // Whether a filter keeps a node with these words in its class.
@@ -57,12 +60,12 @@ fn passes<'a>(
     page: &Page,
     focus: Option<NodeId>,
     node: NodeId,
-    classes: &BTreeSet<&'a [u16]>,
-    by: &'a Filter,
+    classes: &Words<'a>,
+    by: &'a Filter<'a>,
 ) -> bool
     requires node { node < length (nodes page.now) }
     requires classes { (w : List ℕ)
-        → list_any (λ k. bytes_eq w k.now) classes.now.keys ≡ has_class (look (nodes page.now) node) w }
+        → list_any (bytes_eq w) classes.now.keys ≡ has_class (look (nodes page.now) node) w }
     ensures { result ≡ passes (nodes page.now) focus by.now node }
 {
     match by {
@@ -76,12 +79,12 @@ fn fails<'a>(
     page: &Page,
     focus: Option<NodeId>,
     node: NodeId,
-    classes: &BTreeSet<&'a [u16]>,
-    filter: &'a StepFilter,
+    classes: &Words<'a>,
+    filter: &'a StepFilter<'a>,
 ) -> bool
     requires node { node < length (nodes page.now) }
     requires classes { (w : List ℕ)
-        → list_any (λ k. bytes_eq w k.now) classes.now.keys ≡ has_class (look (nodes page.now) node) w }
+        → list_any (bytes_eq w) classes.now.keys ≡ has_class (look (nodes page.now) node) w }
     ensures { result ≡ fails (nodes page.now) focus node filter.now }
 {
     match filter {
@@ -95,12 +98,12 @@ fn failed_at<'a>(
     page: &Page,
     focus: Option<NodeId>,
     node: NodeId,
-    classes: &BTreeSet<&'a [u16]>,
-    filters: &'a [StepFilter],
+    classes: &Words<'a>,
+    filters: &'a [StepFilter<'a>],
 ) -> usize
     requires node { node < length (nodes page.now) }
     requires classes { (w : List ℕ)
-        → list_any (λ k. bytes_eq w k.now) classes.now.keys ≡ has_class (look (nodes page.now) node) w }
+        → list_any (bytes_eq w) classes.now.keys ≡ has_class (look (nodes page.now) node) w }
     ensures place { result ≡ failed_at (nodes page.now) focus filters.now node }
     ensures inside { result ≤ length filters.now }
 {
@@ -118,7 +121,7 @@ fn mark_failed<'a>(
     page: &'a Page,
     focus: Option<NodeId>,
     node: NodeId,
-    filters: &'a [StepFilter],
+    filters: &'a [StepFilter<'a>],
     failed: &mut Vec<bool>,
 ) -> Result<(), Memory>
     requires node { node < length (nodes page.now) }
@@ -137,7 +140,7 @@ pub fn mark_all_failed(
     alloc: Global,
     page: &Page,
     focus: Option<NodeId>,
-    filters: &[StepFilter],
+    filters: &[StepFilter<'_>],
     list: &[NodeId],
 ) -> Result<Vec<bool>, Memory>
     requires { AreNodes page.now list.now }
@@ -147,7 +150,7 @@ pub fn mark_all_failed(
 {
     let mut failed = vec![in alloc; false; filters.len() + 1]?;
     'each: for node in list {
-        mark_failed(alloc, page, focus, *node, filters, &mut failed)?;
+        mark_failed(alloc, &*page, focus, *node, &*filters, &mut failed)?;
     }
     Ok(failed)
 }

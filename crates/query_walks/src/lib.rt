@@ -9,5 +9,7 @@ pub mod hunt;
 pub mod marks;
 pub mod named;
 pub mod nodes;
+pub mod once;
 pub mod order;
 pub mod wanted;
+mod word;

@@ -7,7 +7,7 @@ ghost use Rattle.query_walks.specs.Nodes.{look, is_element, passes};
 ghost use Rattle.query_grammar.specs.Filters.{is_equal, has_tag, is_input, is_field, seen_value, seen, words, has_class};
 ghost use Rattle.query_grammar.specs.Finds.{has_focus};
 
-use code_units::{Text, is_word};
+use code_units::{Text, is_word, spells};
 use page_tree::{NodeId, Page, is_number};
 use query_grammar::Filter;
 use style_text::prints_as;
@@ -64,12 +64,12 @@ fn is_field(page: &Page, node: NodeId) -> bool
 }
 
 /// Whether a node has an attribute with a value. The name is an ASCII word.
-pub fn has_value(page: &Page, node: NodeId, name: &[u8], value: &Text) -> bool
+pub fn has_value(page: &Page, node: NodeId, name: &[u8], value: &[u16]) -> bool
     requires { node < length (nodes page.now) }
     ensures { result ≡ is_equal ((look (nodes page.now) node).attribute name.now) value.now }
 {
     match page.attr_of_word(node, name) {
-        Some(found) => *found == *value,
+        Some(found) => found.units() == value,
         None => false,
     }
 }
@@ -120,28 +120,28 @@ fn has_word(units: &[u16], word: &[u16]) -> bool
     }
 }
 
-fn has_class(page: &Page, node: NodeId, word: &Text) -> bool
+fn has_class(page: &Page, node: NodeId, word: &[u16]) -> bool
     requires { node < length (nodes page.now) }
     ensures { result ≡ has_class (look (nodes page.now) node) word.now }
 {
     match page.attr_of_word(node, b"class") {
-        Some(classes) => has_word(classes.units(), word.units()),
+        Some(classes) => has_word(classes.units(), word),
         None => false,
     }
 }
 
 // Whether an attribute's value is a text, where that of `style` counts in its printed form.
-fn is_seen(name: &Text, found: &Text, value: &Text) -> bool
+fn is_seen(name: &[u16], found: &Text, value: &[u16]) -> bool
     ensures { result ≡ bytes_eq (seen_value name.now found.now) value.now }
 {
-    if is_word(name, b"style") {
+    if spells(name, b"style") {
         prints_as(found, value)
     } else {
-        *found == *value
+        found.units() == value
     }
 }
 
-fn equals(page: &Page, node: NodeId, name: &Text, value: &Text) -> bool
+fn equals(page: &Page, node: NodeId, name: &[u16], value: &[u16]) -> bool
     requires { node < length (nodes page.now) }
     ensures { result ≡ is_equal (seen (look (nodes page.now) node) name.now) value.now }
 {
@@ -165,11 +165,11 @@ pub fn test(page: &Page, focus: Option<NodeId>, node: NodeId, filter: &Filter) -
     ensures { result ≡ passes (nodes page.now) focus filter.now node }
 {
     match filter {
-        Filter::Class(word) => has_class(page, node, word),
-        Filter::Name(word) => has_value(page, node, b"name", word),
-        Filter::Kind(word) => has_value(page, node, b"type", word),
-        Filter::Has(name) => page.attr(node, name).is_some(),
-        Filter::Equals(name, value) => equals(page, node, name, value),
+        Filter::Class(word) => has_class(page, node, word.units()),
+        Filter::Name(word) => has_value(page, node, b"name", word.units()),
+        Filter::Kind(word) => has_value(page, node, b"type", word.units()),
+        Filter::Has(name) => page.attr(node, name.units()).is_some(),
+        Filter::Equals(name, value) => equals(page, node, name.units(), value.units()),
         Filter::Checked => is_input(page, node) && has_word_attr(page, node, b"checked"),
         Filter::Unchecked => is_input(page, node) && !has_word_attr(page, node, b"checked"),
         Filter::Enabled => is_field(page, node) && !has_word_attr(page, node, b"disabled"),

@@ -46,7 +46,7 @@ impl Wanted<'_> {
         match self {
             Wanted::Elements => is_element(page, node),
             Wanted::Tagged(tag) => is_element(page, node) && has_tag(page, node, tag),
-            Wanted::Named(id) => is_element(page, node) && has_value(page, node, b"id", id),
+            Wanted::Named(id) => is_element(page, node) && has_value(page, node, b"id", id.units()),
             Wanted::Among(found, _) => found.has(node),
         }
     }

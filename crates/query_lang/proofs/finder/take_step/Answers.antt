@@ -14,9 +14,9 @@ filter_all-requires c = in_order_nodes c.args.page.now c.args.owner c.requires.o
 
 pub returns : goal.returns
 returns c = ok_equal c.filter_all.result (λ v. v.items) _ _
-    (step_same c.args.page.now c.args.owner c.args.focus c.step.inside.hunter c.deref-2.result.now c.args.step.now c.args.starts.now c.deref.result.now c.in_ok-list.list.items
+    (step_same c.args.page.now c.args.owner c.args.focus c.step.inside.hunter c.step.inside.filters c.args.step.now c.args.starts.now c.deref.result.now c.in_ok-list.list.items
     (ap (λ (s : Step). s.hunter) c.step.view_is)
-    (c.deref-2.ensures.value ∙ ap (λ (s : Step). s.filters) c.step.view_is)
+    (ap (λ (s : Step). s.filters) c.step.view_is)
     (λ n there. ap (λ l. has_number l n) c.deref.ensures.value ∙ c.in_ok-found.ensures.found n there)
     c.in_ok-list.ensures)
     c.filter_all.ensures

@@ -1,0 +1,126 @@
+//! The filters of a step without those that keep all nodes: one on nodes that stood before, and one
+//! that keeps the first node where there is no second one.
+ghost use Rattle.std.specs.Prelude.{◌≡◌, ◌≤◌, [], ◌∷◌, ◌++◌, length, take, drop, true, if◌then◌else◌, IfOk, OnOk, MatchOption};
+ghost use Rattle.query_grammar.specs.declared.query.ListFilter.TheVariants as on_list;
+ghost use Rattle.query_grammar.specs.declared.query.StepFilter.TheVariants as kind;
+ghost use Rattle.query_grammar.specs.Spelled.{filters_of, AreFilters, IsFirst};
+ghost use Rattle.query_walks.specs.Thinned.{KeepSame, most_left, is_tried, seen_after};
+
+use crate::word::{Word, Words};
+use code_units::{Memory, spells};
+use indexmap::IndexSet;
+use keyed_names::Keys;
+use query_grammar::{ListFilter, StepFilter};
+use query_text::first_filter;
+use std::alloc::Global;
+
+// The length of `:first`.
+const FIRST: usize = 6;
+
+// Whether units begin with `:first`.
+fn begins_with_first(units: &[u16]) -> bool
+    requires { AreFilters units.now }
+    ensures { result ≡ true → IsFirst units.now (kind.List on_list.First) 6 }
+{
+    units.len() >= FIRST && spells(&units[..FIRST], b":first")
+}
+
+// The first of the filters that units spell, as `first_filter` gives it; `:first` is known at once.
+fn next_filter(units: &[u16]) -> Option<(StepFilter<'_>, usize)>
+    requires { AreFilters units.now }
+    ensures { MatchOption result (filters_of units.now ≡ []) (λ r. IsFirst units.now r.0 r.1) }
+{
+    if begins_with_first(units) {
+        return Some((StepFilter::List(ListFilter::First), FIRST));
+    }
+    first_filter(units)
+}
+
+// The units before a place.
+fn front(units: &[u16], place: usize) -> &[u16]
+    requires { place ≤ length units.now }
+    ensures { result.now ≡ take place units.now }
+{
+    &units[..place]
+}
+
+/// The units from a place on.
+pub fn behind(units: &[u16], place: usize) -> &[u16]
+    requires { place ≤ length units.now }
+    ensures { result.now ≡ drop place units.now }
+{
+    &units[place..]
+}
+
+// How many nodes a filter leaves at most.
+fn most_left(filter: &StepFilter<'_>, most: usize) -> usize
+    ensures { result ≡ most_left filter.now most }
+{
+    match filter {
+        StepFilter::Node(_) => most,
+        StepFilter::List(ListFilter::First) => most.min(1),
+        StepFilter::List(ListFilter::Rest) => most.saturating_sub(1),
+        StepFilter::List(ListFilter::Even) => most - most / 2,
+        StepFilter::List(ListFilter::Odd) => most / 2,
+    }
+}
+
+// Whether a filter is to be tried, where at most so many nodes are left.
+fn is_tried<'a>(
+    seen: &mut Words<'a>,
+    units: &'a [u16],
+    filter: &StepFilter<'a>,
+    most: usize,
+) -> Result<bool, Memory>
+    ensures tried { IfOk result (λ tried. tried ≡ is_tried filter.now most seen.old.keys units.now) }
+    ensures seen { OnOk result (seen.new.keys ≡ seen_after filter.now seen.old.keys units.now) }
+{
+    match filter {
+        StepFilter::Node(_) => Ok(seen.insert(Word::new(units))?),
+        StepFilter::List(ListFilter::First) => Ok(most > 1),
+        StepFilter::List(ListFilter::Rest) => Ok(true),
+        StepFilter::List(ListFilter::Even) => Ok(most > 1),
+        StepFilter::List(ListFilter::Odd) => Ok(true),
+    }
+}
+
+// Puts a filter behind others, if it is to be tried.
+fn keep_one<'a>(
+    filter: StepFilter<'a>,
+    tried: bool,
+    kept: &mut Vec<StepFilter<'a>>,
+) -> Result<(), Memory>
+    ensures { OnOk result (kept.new.items ≡ (if tried then kept.old.items ++ filter.entry ∷ [] else kept.old.items)) }
+{
+    if tried {
+        kept.push(filter)?;
+    }
+    Ok(())
+}
+
+/// The filters that units spell, without those that keep all nodes in any case where there are at
+/// most so many before them. The keys are those of a table of words.
+pub fn each_once(
+    alloc: Global,
+    keys: Keys,
+    units: &[u16],
+    nodes: usize,
+) -> Result<Vec<StepFilter<'_>>, Memory>
+    requires { AreFilters units.now }
+    ensures { IfOk result (λ filters. KeepSame nodes (filters_of units.now) filters.items) }
+{
+    let mut seen = IndexSet::with_hasher(alloc, keys);
+    let mut kept = Vec::new(alloc);
+    let mut most = nodes;
+    let mut rest = units;
+    'filters: while let Some((filter, end)) = next_filter(rest) {
+        if most == 0 {
+            return Ok(kept);
+        }
+        let tried = is_tried(&mut seen, front(rest, end), &filter, most)?;
+        most = most_left(&filter, most);
+        keep_one(filter, tried, &mut kept)?;
+        rest = behind(rest, end);
+    }
+    Ok(kept)
+}
