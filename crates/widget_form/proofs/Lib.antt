@@ -1,4 +1,3 @@
 pub mod Body
 pub mod Splitting
 pub mod GoodFiles
-mod Ascii

@@ -1,7 +1,5 @@
 //! A file in its parts, or its first broken rule.
 ghost use Rattle.std.specs.Prelude.{◌≡◌, ◌+◌, [], length, map, IfOk, IfErr, filter_map, option_map, take, ◌≢◌};
-ghost use Rattle.std.specs.Char.{is_ascii};
-ghost use Rattle.std.specs.List.{list_all};
 ghost use Rattle.code_units.specs.Utf8.{utf8_of};
 ghost use Rattle.plain_tree.specs.Trees.{Trees, beside};
 ghost use Rattle.plain_tree.specs.Plains.{Places, placed, placed_all};
@@ -12,7 +10,7 @@ ghost use Rattle.widget_form.specs.Forms.{HasScripts, span_in, span_of, source, 
 
 use crate::form::{Form, FormFault, Span};
 use crate::judge::judge;
-use code_units::{Memory, Text, push_utf8};
+use code_units::{Memory, Text, utf8_len};
 use markup_rules::items::first_named;
 use markup_rules::part::{Part, root_of, root_place, scripts_of};
 use markup_rules::root::is_script;
@@ -20,48 +18,22 @@ use markup_rules::rows::Slot;
 use plain_tree::Plain;
 use std::alloc::Global;
 
-// Whether a unit is of ASCII.
-fn is_ascii(unit: u16) -> bool
-    ensures { result ≡ is_ascii unit }
-{
-    unit < 128
-}
-
-fn are_ascii(units: &[u16]) -> bool
-    ensures { result ≡ list_all is_ascii units.now }
-{
-    units.iter().all(|unit| is_ascii(*unit))
-}
-
-// How many bytes a text has in UTF-8: as many as units, where it is ASCII.
-fn utf8_len(alloc: Global, text: &Text) -> Result<usize, Memory>
-    ensures { IfOk result (λ n. n ≡ length (utf8_of text.now)) }
-{
-    let units = text.units();
-    if are_ascii(units) {
-        return Ok(units.len());
-    }
-    let mut bytes = Vec::new(alloc);
-    push_utf8(text, &mut bytes)?;
-    Ok(bytes.len())
-}
-
 // Where a text stands.
-fn text_span(alloc: Global, text: &Text, from: usize) -> Result<Span, Memory>
+fn text_span(text: &Text, from: usize) -> Result<Span, Memory>
     ensures { IfOk result (λ s. s ≡ record { from = from; to = from + length (utf8_of text.now) }) }
 {
-    match from.checked_add(utf8_len(alloc, text)?) {
+    match from.checked_add(utf8_len(text)) {
         Some(to) => Ok(Span { from, to }),
         None => Err(Memory),
     }
 }
 
 // Where the first child of a script stands, if it is a text.
-fn child_span(alloc: Global, child: &Plain, script_at: usize) -> Result<Span, Memory>
+fn child_span(child: &Plain, script_at: usize) -> Result<Span, Memory>
     ensures { (rest : Trees Places) → IfOk result (λ s. s ≡ span_in script_at (beside (placed child.now) rest)) }
 {
     match child {
-        Plain::Text { text, at } => text_span(alloc, text, *at),
+        Plain::Text { text, at } => text_span(text, *at),
         Plain::Element { .. } => Ok(Span {
             from: script_at,
             to: script_at,
@@ -70,11 +42,11 @@ fn child_span(alloc: Global, child: &Plain, script_at: usize) -> Result<Span, Me
 }
 
 // Where the text of a script stands.
-fn span_of(alloc: Global, script: &Part) -> Result<Span, Memory>
+fn span_of(script: &Part) -> Result<Span, Memory>
     ensures { IfOk result (λ s. s ≡ span_of (element_of script.now)) }
 {
     match script.children.first() {
-        Some(child) => child_span(alloc, child, script.at),
+        Some(child) => child_span(child, script.at),
         None => Ok(Span {
             from: script.at,
             to: script.at,
@@ -96,13 +68,13 @@ fn libs_of(alloc: Global, scripts: &[Part]) -> Result<Vec<Text>, Memory>
 }
 
 // The span of the first of several scripts.
-fn id_span(alloc: Global, scripts: &[Part]) -> Result<Option<Span>, Memory>
+fn id_span(scripts: &[Part]) -> Result<Option<Span>, Memory>
     ensures { IfOk result (λ s. s ≡ option_map span_of (first_of_several (map element_of scripts.now))) }
 {
     if scripts.len() < 2 {
         return Ok(None);
     }
-    Ok(Some(span_of(alloc, &scripts[0])?))
+    Ok(Some(span_of(&scripts[0])?))
 }
 
 // The number of trees before the first script.
@@ -171,9 +143,9 @@ fn parts_of(alloc: Global, content: &[Plain]) -> Result<Scripts, Memory>
         unreachable!()
     };
     Ok(Scripts {
-        id_script: id_span(alloc, &scripts)?,
+        id_script: id_span(&scripts)?,
         libs: libs_of(alloc, &scripts)?,
-        script: span_of(alloc, last)?,
+        script: span_of(last)?,
     })
 }
 
