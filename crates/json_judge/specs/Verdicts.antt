@@ -1,5 +1,6 @@
 -- What is known of a JSON text before its value is made.
-use Rattle.std.specs.Prelude.{◌≡◌, ℕ, Bool, true, false, List, length, Some, None}
+use Rattle.std.specs.Prelude.{◌≡◌, ⊤, ℕ, Bool, true, false, List, [], ◌∷◌, length, Some, None}
+use Rattle.code_units.specs.Utf8.{utf8_of}
 use Rattle.json.specs.Token.{Token}
 use Rattle.json.specs.Json.{items, members, value}
 use Rattle.serde_json.specs.Data.{Data, Items, Members, no_members}
@@ -24,6 +25,12 @@ abbrev pub Tells : List ℕ → Verdict → Type 0
 Tells text verdict.NotJson = read text ≡ None
 Tells text verdict.Refused = IsRefused text
 Tells text verdict.Passed = IsJson text
+
+-- each text stands beside a verdict that tells of it
+abbrev pub AreTold : List (List ℕ) → List Verdict → Type 0
+AreTold [] [] = ⊤
+AreTold (text ∷ texts) (v ∷ vs) = Tells (utf8_of text) v × AreTold texts vs
+AreTold _ _ = ⊥
 
 -- A value was passed, and if a refused name was found, it has one.
 pub record PassesValue (depth : ℕ) (old new : List Token) (refused : Bool) : Type 0 where

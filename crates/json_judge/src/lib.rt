@@ -2,8 +2,10 @@
 //! it, and whether an object in it has a name that is not permitted.
 #![tactic(auto)]
 
+mod judged;
 mod judging;
 mod members;
 mod numbers;
 
+pub use judged::JudgedTexts;
 pub use judging::{Verdict, judge};

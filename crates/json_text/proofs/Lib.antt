@@ -12,3 +12,4 @@ pub mod Ended
 pub mod Named
 pub mod Written
 pub mod Owned
+pub mod Judged

@@ -12,7 +12,6 @@ ghost use Rattle.js_image.specs.Image.{Rest, image, seen};
 ghost use Rattle.js_image.specs.Plans.{meant_cause};
 ghost use Rattle.native_common.specs.Refines.{Ends, Refines};
 ghost use Rattle.native_common.specs.Numbers.{counted};
-ghost use Rattle.json_judge.specs.Verdicts.{Tells};
 ghost use Rattle.json_text.specs.Reading.{IsMade, Parses, born_plan, read_plan, weight_cost};
 ghost use Rattle.json_text.specs.Weights.{weight};
 
@@ -21,7 +20,7 @@ use crate::weighing::{NO_WEIGHT, Weight, weigh};
 use code_units::{Memory, Owner, Text, push_utf8};
 use js_image::{Fault, Paid, StopCause, pay_units};
 use js_values::{Meter, NativeOut};
-use json_judge::{Verdict, judge};
+use json_judge::Verdict;
 use json_shapes::{ShapeFault, read_json};
 use native_common::{take, text_len};
 use object_store::{CELL_LIMIT, SLOT_LIMIT, Store, UNIT_LIMIT, Value};
@@ -44,7 +43,7 @@ pub fn from_json(
     let Value::Text(text) = v else {
         return Ok(NativeOut::Throw(Fault::E4));
     };
-    match parsed(alloc, text)? {
+    match parsed(alloc, store, text)? {
         Found::NotJson => Ok(NativeOut::Throw(Fault::E4)),
         Found::Refused => Ok(NativeOut::Throw(Fault::E8)),
         Found::Value(json) => read_value(alloc, store, meter, w, text_len(text), &json),
@@ -60,26 +59,24 @@ pub enum Found {
 }
 
 // A text is judged first, so that what throws is not made.
-fn parsed(alloc: Global, text: &Text) -> Result<Found, Memory>
+fn parsed(alloc: Global, store: &mut Store, text: &Text) -> Result<Found, Memory>
+    ensures found { IfOk result (Parses text.now) }
+    ensures same { store.new ≡ store.old }
+{
+    match store.json_verdict(alloc, text)? {
+        Verdict::NotJson => Ok(Found::NotJson),
+        Verdict::Refused => Ok(Found::Refused),
+        Verdict::Passed => read_text(alloc, text),
+    }
+}
+
+// The value of a text.
+fn read_text(alloc: Global, text: &Text) -> Result<Found, Memory>
     ensures { IfOk result (Parses text.now) }
 {
     let mut bytes = Vec::new(alloc);
     push_utf8(text, &mut bytes)?;
-    match judged(alloc, &bytes)? {
-        Verdict::NotJson => Ok(Found::NotJson),
-        Verdict::Refused => Ok(Found::Refused),
-        Verdict::Passed => made(alloc, &bytes),
-    }
-}
-
-// The verdict on UTF-8.
-fn judged(alloc: Global, bytes: &[u8]) -> Result<Verdict, Memory>
-    ensures { IfOk result (Tells bytes.now) }
-{
-    match str::from_utf8(bytes) {
-        Ok(text) => judge(alloc, text),
-        Err(_) => Err(Memory),
-    }
+    made(alloc, &bytes)
 }
 
 // The value of UTF-8.

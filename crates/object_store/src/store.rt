@@ -16,11 +16,14 @@ ghost use Rattle.object_store.specs.Elements.{HasHidden, array_length, bunch_nod
 ghost use Rattle.object_store.specs.Grows.{Grows};
 ghost use Rattle.store_cells.specs.Cells.{own_number_of, IsOwner, IsWidget, number_in};
 ghost use Rattle.store_cells.specs.First.{first_values};
+ghost use Rattle.code_units.specs.Utf8.{utf8_of};
+ghost use Rattle.json_judge.specs.Verdicts.{Tells};
 ghost use Rattle.store_cells.specs.Born.{HaveCells, IsScopeOf, array_cell, bunch_cells, new_cell, object_cell, raw_place, scope_cell, unset};
 
 use code_units::{Memory, Owner, Text};
 use indexmap::IndexMap;
 use js_tree::FunId;
+use json_judge::{JudgedTexts, Verdict};
 use keyed_names::{Keys, NumberKeys};
 use permitted_table::{HostEntry, NativeId};
 use property_names::PropertyNames;
@@ -135,6 +138,7 @@ pub struct Store {
     raws: IndexMap<u32, u32, NumberKeys>,
     kept: Vec<Counts>,
     key: NumberKeys,
+    judged: JudgedTexts,
 }
 
 impl Model for Store {
@@ -168,12 +172,14 @@ impl Store {
         let table = host::host_table(alloc, keys)?;
         let raws = host::first_raws(Maker { alloc, key })?;
         let kept = first_counts(alloc)?;
+        let judged = JudgedTexts::new(alloc, keys)?;
         Ok(Store {
             names: table.0,
             cells: table.1,
             raws,
             kept,
             key,
+            judged,
         })
     }
 
@@ -797,6 +803,14 @@ impl Store {
         ensures grows { (w : ℕ) → Grows w self.old.cells self.new.cells }
     {
         counts::charge_slots(&mut self.kept, counts::widget(owner), n)
+    }
+
+    /// What is known of the JSON in a text. A long text that throws is judged once for all widgets.
+    pub fn json_verdict(&mut self, alloc: Global, text: &Text) -> Result<Verdict, Memory>
+        ensures tells { IfOk result (Tells (utf8_of text.now)) }
+        ensures same { self.new ≡ self.old }
+    {
+        self.judged.verdict(alloc, text)
     }
 
     /// The cell of a page node, made where there is none.
