@@ -80,6 +80,8 @@ ROWS = [
     ("`fromJson` of 250,000 units, one name again and again, that end badly", "var s = '{%s';" % ('"a":1,' * 41000), FROM),
     ("`fromJson` of 250,000 units, objects, that end badly", "var s = '[%s';" % ('{"a":1},' * 31000), FROM),
     ("`fromJson` of 250,000 units, floats, that end badly", "var s = '[%s';" % ("1e9," * 62000), FROM),
+    ("`fromJson` of 250,000 units that end badly, which are a name too",
+     "var o = {}, s = '[%s'; ADSAFE.set(o, s, 1);" % ("1," * 125000), "x = ADSAFE.get(o, s); " + FROM),
     ("`fromJson` of 250,000 units, one text, that end badly", "var s = '\"%s';" % ("x" * 250000), FROM),
     ("`fromJson` of 166,000 units, escapes, that end badly", "var s = '\"%s';" % ("\\\\n" * 83000), FROM),
     ("`fromJson` of 250,000 units behind a bad name", "var s = '[{\"eval\":1}%s]';" % (",1" * 120000), FROM),
