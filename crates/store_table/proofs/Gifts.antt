@@ -14,7 +14,7 @@ use Rattle.store_cells.specs.Cells.{PlainCell, is_array}
 use Rattle.store_cells.specs.Arrays.{length_name, length_in}
 use Rattle.property_names.specs.Seen.{HasWords}
 use Rattle.store_cells.specs.Shape.{AreWords, IsBase, Kept}
-use Rattle.store_cells.specs.Numbered.{NumberedCell, heads, plan_of, element_plan, numbered_length}
+use Rattle.store_cells.specs.Numbered.{Grown, NumberedCell, heads, plan_of, element_plan, numbered_length}
 use Rattle.store_table.specs.Bare.{no_arrays, with_gifts}
 use Rattle.store_table.specs.Bare.{Gift}
 use Rattle.store_cells.proofs.Lists.{none_some, some_same}
@@ -81,6 +81,11 @@ pub on_ok_then : {X E Y : Type 0} (r : Result X E) (a b d : Y) → OnOk r (a ≡
 on_ok_then (Ok x) a b d e g = e ∙ g
 on_ok_then (Err x) a b d e g = tt
 
+-- an answer whose premise holds
+pub on_ok_given : {X E A : Type 0} (B : Type 0) (r : Result X E) → A → OnOk r (A → B) → OnOk r B
+on_ok_given B (Ok x) a f = f a
+on_ok_given B (Err e) a f = tt
+
 -- what holds in any case, where it is asked of a refusal
 pub on_err : {X E Y : Type 0} (r : Result X E) → Y → OnErr r Y
 on_err (Ok x) y = tt
@@ -89,6 +94,12 @@ on_err (Err e) y = y
 -- nothing is done
 pub kept_as_is : (names : List (List ℕ)) (cs : List NumberedCell) → IsBase names cs → Kept names cs names cs
 kept_as_is names cs base = record { done = refl; base = base; heads = refl }
+
+pub grown_same : (names : List (List ℕ)) → Grown names names
+grown_same names = record {
+  longer = omega arith;
+  kept = λ k lt. refl;
+}
 
 -- gifts to the same cells
 pub gifts_then : (x : List PlainCell) (a b : List Gift) (y z : List PlainCell) → x ≡ with_gifts a b y → y ≡ z → x ≡ with_gifts a b z

@@ -1,19 +1,18 @@
 //! A Bunch and its hidden Array.
 ghost use Rattle.std.specs.Prelude.{◌≡◌, ◌+◌, ◌<◌, ◌≤◌, [], ◌∷◌, ◌++◌, Some, nat_eq, length, vec_len, map, slice_get, unwrap_or, IfOk, OnOk, OnErr};
-ghost use Rattle.std.specs.Fmt.{decimal};
 ghost use Rattle.std.specs.Map.{lookup};
 ghost use Rattle.keyed_names.specs.Interned.{IsTable};
 ghost use Rattle.store_cells.specs.Born.{filled_cell};
 ghost use Rattle.store_cells.specs.Bunches.{array_pairs, bunch_cell, hidden_array};
 ghost use Rattle.store_cells.specs.Host.{AreHost, array_prototype, bunch_prototype};
-ghost use Rattle.store_cells.specs.Numbered.{Grown, cells_of, heads};
+ghost use Rattle.store_cells.specs.Numbered.{cells_of, heads};
 ghost use Rattle.store_cells.specs.Shape.{AreElements, AreRaws, AreWords, Grew, GrewBunch, IsArrayOf, IsBase, IsOrdered, Kept, head_on, hidden_head, links_at, node_places};
 ghost use Rattle.store_cells.specs.declared.kind.Form.TheVariants as form;
 ghost use Rattle.store_cells.specs.declared.value.Value.TheVariants as value;
 
 use crate::host::{ARRAY_PROTOTYPE, BUNCH_PROTOTYPE};
 use crate::table::{self, OwnPlace};
-use code_units::{Memory, Owner, Text, whole_text};
+use code_units::{Memory, Owner};
 use indexmap::IndexMap;
 use keyed_names::NumberKeys;
 use property_names::PropertyNames;
@@ -28,13 +27,6 @@ fn node_place(raws: &IndexMap<u32, u32, NumberKeys>, node: u32) -> CellId
     table::node_cell(raws, node).unwrap_or(0)
 }
 
-// The name of an element.
-fn element_name(alloc: Global, at: u32) -> Result<Text, Memory>
-    ensures { IfOk result (λ t. t ≡ decimal at) }
-{
-    whole_text(alloc, i64::from(at))
-}
-
 // The value at a place of a list, for a second holder.
 fn value_at(values: &[Value], at: usize) -> Result<Value, Memory>
     requires { at < length values.now }
@@ -47,23 +39,20 @@ fn value_at(values: &[Value], at: usize) -> Result<Value, Memory>
 // An Array of these elements.
 fn array_of(
     maker: Maker,
-    names: &mut PropertyNames,
+    names: &PropertyNames,
     head: Head,
     values: &[Value],
 ) -> Result<Cell, Memory>
-    requires table { IsTable names.old }
-    requires words { AreWords names.old }
+    requires table { IsTable names.now }
+    requires words { AreWords names.now }
     requires few { length values.now ≤ SLOT_LIMIT }
-    ensures grown { Grown names.old names.new }
-    ensures table { IsTable names.new }
-    ensures done { IfOk result (λ c. IsArrayOf names.new head (length values.now) values.now c) }
+    ensures { IfOk result (λ c. IsArrayOf names.now head (length values.now) values.now c) }
 {
     let mut cell = Cell::with_room(maker, head, values.len() + 1)?;
     cell.write(LENGTH, count_value(values.len() as u32), 0)?;
     for at in 0..values.len() {
-        let name = element_name(maker.alloc, at as u32)?;
         let value = value_at(values, at)?;
-        table::write_new(names, &mut cell, &name, value, at as u32 + 1)?;
+        table::write_element(names, &mut cell, at as u32, value)?;
     }
     Ok(cell)
 }

@@ -472,6 +472,29 @@ pub fn write_new(
     cell.write(n, value, end)
 }
 
+/// Writes an element of a new Array that has a place for it, under the number of its index.
+#[inline(always)]
+pub fn write_element(
+    names: &PropertyNames,
+    cell: &mut Cell,
+    at: u32,
+    value: Value,
+) -> Result<(), Memory>
+    requires index { at < 1073741824 }
+    requires table { IsTable names.now }
+    requires known { Known (length names.now) cell.old.entries }
+    ensures known { OnOk result (Known (length names.now) cell.new.entries) }
+    ensures head { OnOk result (cell.new.head ≡ cell.old.head) }
+    ensures indexed { OnOk result (IsIndexed names.now (found_in cell.old.elements) cell.old.entries
+        → IsIndexed names.now (found_in cell.new.elements) cell.new.entries) }
+    ensures counted { OnOk result (cell.old.references ≡ references_in names.now cell.old.entries
+        → cell.new.references ≡ references_in names.now cell.new.entries) }
+    ensures done { OnOk result (plain names.now cell.new ≡ written (decimal at) value (plain names.now cell.old)) }
+{
+    let n = names.of_index(at);
+    cell.write(n, value, at + 1)
+}
+
 // A new cell with its first pairs.
 fn filled(
     maker: Maker,

@@ -8,6 +8,7 @@ use Rattle.store_cells.specs.declared.value.Value.TheVariants as value
 use Rattle.store_cells.specs.Host.{array_prototype}
 use Rattle.store_cells.specs.Numbered.{NumberedCell, heads}
 use Rattle.store_cells.specs.Shape.{IsArrayOf, hidden_head}
+use Rattle.store_table.proofs.Gifts.{grown_same}
 use Rattle.store_table.proofs.Births.{bunch_grew, bunch_is, links_short, places_under}
 use Rattle.store_cells.proofs.Filled.{kept_err, kept_same}
 use Rattle.store_table.proofs.bunch.add_bunch.Goals as goal
@@ -21,10 +22,10 @@ array_of-requires-clause-few c =
     omega (arith, c.requires.few, ap (λ (vs : List Value). length vs) (c.deref.ensures.value ∙ c.in_ok-refs.ensures), length-map c.args.nodes.now place, length-map (map place c.args.nodes.now) value.Ref)
 
 pub returns-in_err-array-clause-err : goal.returns-in_err-array-clause-err
-returns-in_err-array-clause-err c = kept_err c.args.names.now c.array_of.new.names c.array_of.ensures.grown c.array_of.ensures.table c.args.cells.now.items c.requires.base c.from_residual-in_err-array.result
+returns-in_err-array-clause-err c = kept_err c.args.names.now c.args.names.now (grown_same c.args.names.now) c.requires.base.table c.args.cells.now.items c.requires.base c.from_residual-in_err-array.result
 
 pub returns-in_err-push_two-clause-err : goal.returns-in_err-push_two-clause-err
-returns-in_err-push_two-clause-err c = kept_same c.args.names.now c.array_of.new.names c.array_of.ensures.grown c.array_of.ensures.table c.args.cells.now.items c.requires.base c.push_two.new.cells.items c.from_residual-in_err-push_two.result c.in_err-push_two.ensures.err
+returns-in_err-push_two-clause-err c = kept_same c.args.names.now c.args.names.now (grown_same c.args.names.now) c.requires.base.table c.args.cells.now.items c.requires.base c.push_two.new.cells.items c.from_residual-in_err-push_two.result c.in_err-push_two.ensures.err
 
 pub returns-clause-ok : goal.returns-clause-ok
 returns-clause-ok c =
@@ -35,8 +36,8 @@ returns-clause-ok c =
     let next : c.len-id.result + 1 ≡ length cs + 1 = omega (arith, id) in
     let few_refs : length (map value.Ref (map place nodes)) ≤ 4294967295 = omega (arith, c.requires.few, length-map nodes place, length-map (map place nodes) value.Ref) in
     let refs : c.deref.result.now ≡ map value.Ref (map place nodes) = c.deref.ensures.value ∙ c.in_ok-refs.ensures in
-    let hidden = subst (λ (vs : List Value). IsArrayOf c.array_of.new.names (hidden_head (heads cs)) (length vs) vs c.in_ok-array.array) refs (subst (λ (h : Head). IsArrayOf c.array_of.new.names h (length c.deref.result.now) c.deref.result.now c.in_ok-array.array) c.hidden_head-head.ensures c.in_ok-array.ensures.done) in
+    let hidden = subst (λ (vs : List Value). IsArrayOf c.args.names.now (hidden_head (heads cs)) (length vs) vs c.in_ok-array.array) refs (subst (λ (h : Head). IsArrayOf c.args.names.now h (length c.deref.result.now) c.deref.result.now c.in_ok-array.array) c.hidden_head-head.ensures c.in_ok-array.ensures) in
     let under = places_under (heads cs) c.args.raws.now.entries (length cs + 2) nodes c.requires.raws (omega arith) (omega (arith, length-map cs (λ (d : NumberedCell). d.head))) in (
       id,
-      bunch_grew c.args.names.now c.array_of.new.names c.array_of.ensures.grown c.array_of.ensures.table cs c.requires.base c.requires.host c.args.place.widget c.args.place.number (map place nodes) c.in_ok-bunch.bunch c.in_ok-array.array (bunch_is c.in_ok-bunch.bunch _ _ _ _ c.in_ok-bunch.ensures c.head_on-head.ensures next) c.requires.ordered few_refs under hidden c.push_two.new.cells.items c.in_ok-push_two.ensures.ok,
+      bunch_grew c.args.names.now c.args.names.now (grown_same c.args.names.now) c.requires.base.table cs c.requires.base c.requires.host c.args.place.widget c.args.place.number (map place nodes) c.in_ok-bunch.bunch c.in_ok-array.array (bunch_is c.in_ok-bunch.bunch _ _ _ _ c.in_ok-bunch.ensures c.head_on-head.ensures next) c.requires.ordered few_refs under hidden c.push_two.new.cells.items c.in_ok-push_two.ensures.ok,
     )

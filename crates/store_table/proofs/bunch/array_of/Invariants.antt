@@ -1,8 +1,6 @@
 use Rattle.std.proofs.Common.{length, take}
-use Rattle.keyed_names.specs.Interned.{IsTable}
-use Rattle.store_cells.specs.Numbered.{Grown}
 use Rattle.store_cells.specs.Shape.{IsArrayOf}
 use Rattle.store_table.proofs.bunch.array_of.Given as goal
 
 abbrev pub invariant-loop-at : goal.invariant-loop-at
-invariant-loop-at l = IsTable l.names × Grown l.fn.names l.names × IsArrayOf l.names l.fn.head (length l.fn.values) (take l.at l.fn.values) l.cell
+invariant-loop-at l = IsArrayOf l.fn.names l.fn.head (length l.fn.values) (take l.at l.fn.values) l.cell
