@@ -1,6 +1,6 @@
 //! Operators on two whole numbers, as most operands are: their results are made here, without the type that
 //! tells every outcome.
-ghost use Rattle.std.specs.Prelude.{◌≡◌, ◌+ℤ◌, ◌-ℤ◌, ℕ, List, IfSome};
+ghost use Rattle.std.specs.Prelude.{◌≡◌, ◌+ℤ◌, ◌-ℤ◌, ◌*ℤ◌, ℕ, List, IfSome, int_rem};
 ghost use Rattle.store_cells.specs.Cells.{PlainCell};
 ghost use Rattle.widget_meaning.specs.OwnState.{State};
 ghost use Rattle.widget_meaning.specs.Operators as operators;
@@ -92,6 +92,8 @@ fn on_wholes(op: BinOp, x: i64, y: i64) -> Option<Value>
     match op {
         BinOp::Add => sum(x, y),
         BinOp::Sub => difference(x, y),
+        BinOp::Mul => product(x, y),
+        BinOp::Rem => remainder(x, y),
         BinOp::Less => Some(Value::Bool(x < y)),
         BinOp::Greater => Some(Value::Bool(y < x)),
         BinOp::LessEqual => Some(Value::Bool(!(y < x))),
@@ -136,4 +138,37 @@ fn difference(x: i64, y: i64) -> Option<Value>
         }
         None => None,
     }
+}
+
+// The product of two numbers, where it is a number.
+#[inline(always)]
+fn product(x: i64, y: i64) -> Option<Value>
+    ensures { IfSome result (λ v. (v ≡ Value.Num (Number.Whole (x *ℤ y)))
+        × (operators.number (x *ℤ y) ≡ operators.Gives (meaning.Num (x *ℤ y)))) }
+{
+    match x.checked_mul(y) {
+        Some(z) => {
+            if z.unsigned_abs() < LIMIT {
+                Some(Value::Num(Number::Whole(z)))
+            } else {
+                None
+            }
+        }
+        None => None,
+    }
+}
+
+// The remainder of two numbers of the language, where the right is not 0.
+#[inline(always)]
+fn remainder(x: i64, y: i64) -> Option<Value>
+    ensures { IfSome result (λ v. (v ≡ Value.Num (Number.Whole (int_rem x y)))
+        × (operators.remainder x y ≡ operators.Gives (meaning.Num (int_rem x y)))) }
+{
+    if x.unsigned_abs() >= LIMIT {
+        return None;
+    }
+    if y == 0 {
+        return None;
+    }
+    Some(Value::Num(Number::Whole(x % y)))
 }
