@@ -23,7 +23,7 @@ use js_cursor::refusal::Refusal;
 use js_cursor::script::Script;
 use js_cursor::steps::{deeper, expect};
 use js_grammar::{Infix, Prefix, Sign};
-use js_tree::{AssignOp, Expr, ExprId, StepOp, Tree, Word};
+use js_tree::{AssignOp, Expr, ExprId, Numeral, StepOp, Tree, Word};
 
 // Adds an expression with these names; `next` is the place after it.
 fn add(
@@ -149,7 +149,7 @@ fn primary(
 {
     match script.peek(at) {
         Sign::Name => leaf(script, tree, Expr::Name(script.text(at)?), at),
-        Sign::Number => leaf(script, tree, Expr::Num(script.text(at)?), at),
+        Sign::Number => leaf(script, tree, Expr::Num(Numeral::new(script.text(at)?)), at),
         Sign::Str => leaf(script, tree, Expr::Str(script.text(at)?), at),
         Sign::This => leaf(script, tree, Expr::Word(Word::This), at),
         Sign::Null => leaf(script, tree, Expr::Word(Word::Null), at),

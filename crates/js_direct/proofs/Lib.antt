@@ -5,7 +5,6 @@ pub mod Handing
 pub mod InPlace
 pub mod Lists
 pub mod Loops
-pub mod Numerals
 pub mod Parts
 pub mod Rarer
 pub mod Reaching

@@ -88,9 +88,9 @@ pub(crate) fn operand_on(
             run.units -= 1;
             name_on(here, store, name, out)
         }
-        Expr::Num(text) => {
+        Expr::Num(numeral) => {
             run.units -= 1;
-            number_on(here, store, text, out)
+            number_on(here, store, numeral, out)
         }
         _ => eval_on(here, run, store, id, deep, out),
     }
@@ -119,7 +119,7 @@ pub(crate) fn form_on(
 {
     match here.tree.expr(id) {
         Expr::Name(name) => name_on(here, store, name, out),
-        Expr::Num(text) => number_on(here, store, text, out),
+        Expr::Num(numeral) => number_on(here, store, numeral, out),
         Expr::Str(text) => text_on(here, store, text, out),
         Expr::Word(word) => word_on(here, store, *word, out),
         Expr::Dot(e, name) => dot_on(here, run, store, *e, name, deep, out),

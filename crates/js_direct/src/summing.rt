@@ -14,16 +14,15 @@ ghost use Rattle.js_flow.specs.Views.{job_of, place_of};
 ghost use Rattle.js_direct.specs.Adds.{Added, Adds};
 ghost use Rattle.js_direct.specs.Reduces.{Reduces};
 
-use crate::leaves::digits;
 use crate::run::Here;
-use code_units::Text;
+use code_units::{Text, WholeRead};
 use js_flow::{FormFrame, Job};
 use js_image::{add_to, variable_at};
 use js_tree::{AssignOp, Expr, ExprId};
 use object_store::{Number, Store, Value};
 
-/// Adds a right side to a variable, where the variable has a whole number and the right side is up to fifteen
-/// digits or a variable that has one: the sum, which is written, for one unit. None where it is not so; then
+/// Adds a right side to a variable, where the variable has a whole number and the right side is one, or a variable
+/// that has one: the sum, which is written, for one unit. None where it is not so; then
 /// nothing changes.
 #[inline(always)]
 pub(crate) fn added(
@@ -64,7 +63,7 @@ fn sum_at(here: &Here, store: &mut Store, name: &Text, by: i64) -> Option<i64>
     Some(z + by)
 }
 
-// The whole number of a right side, as far as that is up to fifteen digits or a variable that has one.
+// The whole number of a right side, as far as that is a literal or a variable that has one.
 #[inline(always)]
 fn right_side(here: &Here, store: &Store, e: ExprId) -> Option<i64>
     requires confined { IsConfined (trees_of here.now.site.now.codes.now.items) here.now.site.now.widget store.now }
@@ -77,8 +76,19 @@ fn right_side(here: &Here, store: &Store, e: ExprId) -> Option<i64>
         ≡ Ret (meaning.Is (meaning.Num y)) (image F r w store.now)) }
 {
     match here.tree.expr(e) {
-        Expr::Num(text) => digits(text.units()),
+        Expr::Num(numeral) => whole_read(numeral.number()),
         Expr::Name(name) => whole_at(variable_at(store, here.at.scope, name)),
+        _ => None,
+    }
+}
+
+// The whole number that a literal is.
+#[inline(always)]
+fn whole_read(read: WholeRead) -> Option<i64>
+    ensures { IfSome result (λ z. read ≡ WholeRead.Whole z) }
+{
+    match read {
+        WholeRead::Whole(z) => Some(z),
         _ => None,
     }
 }

@@ -88,7 +88,7 @@ fn simple(flow: &mut Flow, node: &Expr, place: Place) -> Result<(), Memory>
     ensures below { OnOk result (flow.new.below ≡ all_frames flow.old) }
 {
     match node {
-        Expr::Num(text) => give(flow, number(text)),
+        Expr::Num(numeral) => give(flow, number(numeral)),
         Expr::Str(text) => give(flow, Value::Text(text.share()?)),
         Expr::Word(word) => give(flow, word_value(*word)),
         Expr::Dot(e, name) => evaluate(flow, FormFrame::Dot(name.share()?), *e, place),

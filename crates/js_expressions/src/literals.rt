@@ -21,20 +21,20 @@ ghost use Rattle.js_flow.specs.Free.{left_free};
 ghost use Rattle.js_flow.specs.Left.{all_frames};
 
 use crate::reading::throw;
-use code_units::{Memory, Text, WholeRead, read_whole, whole_text};
+use code_units::{Memory, WholeRead, whole_text};
 use js_flow::{Completion, Flow, FormFrame, Frame, Job, Place, element_at, property_at};
 use js_image::{Made, Written, make, put};
 use js_names::{Code, tree_at};
-use js_tree::{ExprId, FunId, Word};
+use js_tree::{ExprId, FunId, Numeral, Word};
 use object_store::{CellId, HostEntry, NewCell, Number, Store, Value};
 use std::alloc::Global;
 
 /// The value of a number literal.
-pub(crate) fn number(text: &Text) -> Value
-    ensures value { (w : ℕ) (cells : List PlainCell) → seen w cells result ≡ expressions.literal (number_in text.now) }
+pub(crate) fn number(numeral: &Numeral) -> Value
+    ensures value { (w : ℕ) (cells : List PlainCell) → seen w cells result ≡ expressions.literal (number_in numeral.now) }
     ensures fine { (w : ℕ) (cells : List PlainCell) → IsFine w cells result }
 {
-    match read_whole(text) {
+    match numeral.number() {
         WholeRead::Whole(z) => Value::Num(Number::Whole(z)),
         WholeRead::NotNumber => Value::Num(Number::NaN),
         WholeRead::Left => Value::Num(Number::NaN),

@@ -189,7 +189,7 @@ fn expand_form<'t>(node: &'t Expr, first: bool, work: &mut Vec<Work<'t>>) -> Res
         OnOk result (PushesForm f first (plain_form f node.now) work.old.items work.new.items) }
 {
     match node {
-        Expr::Num(text) => push_all(work, &[Work::Name(text)]),
+        Expr::Num(numeral) => push_all(work, &[Work::Name(numeral.text())]),
         Expr::Str(text) => push_all(work, &[Work::Quoted(text)]),
         Expr::Name(text) => push_all(work, &[Work::Name(text)]),
         Expr::Word(word) => push_all(work, &[Work::Mark(word_text(*word))]),

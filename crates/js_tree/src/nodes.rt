@@ -1,4 +1,5 @@
 //! The nodes of the tree, whose parts are named by number.
+use crate::numerals::Numeral;
 use code_units::Text;
 
 /// The number of an expression.
@@ -89,7 +90,7 @@ pub enum AssignOp {
 /// An expression (ECMA-262 3rd edition, section 11).
 #[derive(Drop)]
 pub enum Expr {
-    Num(Text),
+    Num(Numeral),
     Str(Text),
     Name(Text),
     Word(Word),

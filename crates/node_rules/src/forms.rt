@@ -83,7 +83,7 @@ pub fn is_wrong_number(node: &Expr) -> bool
     ensures { (f : Forest) → result ≡ is_wrong_number (plain_form f node.now) }
 {
     match node {
-        Expr::Num(text) => is_refused_number(text),
+        Expr::Num(numeral) => is_refused_number(numeral.text()),
         _ => false,
     }
 }

@@ -2681,7 +2681,7 @@ forms::operand_on-returns-in-Num-clause-comes t c =
     let j = job_of fs w s.cells (job.Eval c.args.id c.args.here.now.at) in
     let has = record c.args.run.now { units = c.args.run.now.units - 1 } in
     IfOk-weaker c.number_on.result _ _
-    (λ how h. unit_first fs w s s 30 0 j (expression (node.Num c.in-Num.text) pl) Ret c.args.run.now has has how (ended_as how c.number_on.new.out) (less_one c.args.run.now.units c.if-run-eq0.false)
+    (λ how h. unit_first fs w s s 30 0 j (expression (node.Num c.in-Num.numeral) pl) Ret c.args.run.now has has how (ended_as how c.number_on.new.out) (less_one c.args.run.now.units c.if-run-eq0.false)
     (λ x. and_then_ret (body j x) ∙ at_eval fs code f c.args.id c.expr.result.now c.requires.tree c.expr.ensures.same pl x ∙ ap (λ (e : Expr). expression (plain_form (forest_at fs code) e) pl x) c.in-Num.is) (h has c.requires.ready.2) (omega arith))
     c.number_on.ensures.comes
 
@@ -2712,7 +2712,7 @@ forms::form_on-returns-in-Num-clause-comes t c =
     let pl = place_of w old.cells at in
     let whole : State → Plan = body (job_of fs w old.cells (job.Eval c.args.id at)) in
     IfOk-weaker c.number_on.result _ _
-    (λ h x. instead fs w old old 30 30 (expression (node.Num c.in-Num.text) pl) whole c.args.run.now c.args.run.now h _ (x c.args.run.now c.requires.ready.2)
+    (λ h x. instead fs w old old 30 30 (expression (node.Num c.in-Num.numeral) pl) whole c.args.run.now c.args.run.now h _ (x c.args.run.now c.requires.ready.2)
     (λ r. at_eval fs at.code f c.args.id c.expr.result.now c.requires.tree c.expr.ensures.same pl (image fs r w old)
     ∙ ap (λ (e : Expr). expression (plain_form g e) pl (image fs r w old)) c.in-Num.is) (omega arith))
     c.number_on.ensures.comes

@@ -16,6 +16,6 @@ returns c =
     let s = c.args.store.now in
     let p = place_of w s.cells c.args.here.now.at in
     record {
-      comes = λ run none. is_shared fs w s 30 (expression (node.Num c.args.text.now) p) run c.number.result c.set_value.new.out c.set_value.ensures none
+      comes = λ run none. is_shared fs w s 30 (expression (node.Num c.args.numeral.now) p) run c.number.result c.set_value.new.out c.set_value.ensures none
           (λ r. sym (ap (λ u. Ret (meaning.Is u) (image fs r w s)) (c.number.ensures.value w s.cells))) (c.number.ensures.fine w s.cells) (omega arith);
     }

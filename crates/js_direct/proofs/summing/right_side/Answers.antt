@@ -1,6 +1,5 @@
 use Rattle.std.proofs.Common.{ap, sym, ◌∙◌}
 use Rattle.std.proofs.lemmas.Option.{IfSome_then}
-use Rattle.code_units.specs.Whole.{number_in}
 use Rattle.js_tree.specs.Trees.{trees}
 use Rattle.js_tree.specs.Forest.{plain_form}
 use Rattle.js_tree.specs.declared.nodes.Expr.{Expr}
@@ -21,10 +20,10 @@ returns-in-Num c =
     let s = c.args.store.now in
     let code = c.args.here.now.at.code in
     let pl = place_of w s.cells c.args.here.now.at in
-    IfSome_then c.digits.result c.digits.ensures
+    IfSome_then c.whole_read.result c.whole_read.ensures
     (λ y h r. at_eval fs code (trees c.args.here.now.tree.now) c.args.e c.expr.result.now c.requires.tree c.expr.ensures.same pl (image fs r w s)
     ∙ ap (λ (e : Expr). expression (plain_form (forest_at fs code) e) pl (image fs r w s)) c.in-Num.is
-    ∙ ap (λ n. Ret (meaning.Is (literal n)) (image fs r w s)) (ap number_in (sym c.units.ensures) ∙ h))
+    ∙ ap (λ n. Ret (meaning.Is (literal n)) (image fs r w s)) (sym c.number.ensures ∙ h))
 
 pub returns-in-Name : goal.returns-in-Name
 returns-in-Name c =
