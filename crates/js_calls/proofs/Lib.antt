@@ -2,9 +2,9 @@ mod Paid
 mod Named
 pub mod Invoked
 mod Entering
-mod Pairs
+pub mod Pairs
 mod Declared
-mod Repeated
+pub mod Repeated
 mod Converted
 pub mod Argued
 mod Scoped

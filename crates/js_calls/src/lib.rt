@@ -14,4 +14,5 @@ mod taking;
 pub use answering::answer;
 pub use declaring::Entry;
 pub use invoking::{Called, call, entered};
+pub use repeating::{gather, next_item};
 pub use taking::take_call;

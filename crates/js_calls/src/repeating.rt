@@ -111,8 +111,8 @@ pub fn gather(
     }
 }
 
-// The item whose call has no result yet.
-fn next_item(g: &Gathering) -> Result<Option<Value>, Memory>
+/// The item whose call has no result yet; none behind the last.
+pub fn next_item(g: &Gathering) -> Result<Option<Value>, Memory>
     ensures { IfOk result (λ o. o ≡ slice_get g.now.items.items (length g.now.results.items)) }
 {
     shared(&g.items, g.results.len())

@@ -1,6 +1,7 @@
 pub mod Adding
 pub mod Arguing
 pub mod FormFrames
+pub mod Gathers
 pub mod Handing
 pub mod InPlace
 pub mod Lists

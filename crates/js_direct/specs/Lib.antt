@@ -1,6 +1,7 @@
 pub mod Adds
 pub mod Argues
 pub mod Comes
+pub mod Gathered
 pub mod Goes
 pub mod Going
 pub mod Hands

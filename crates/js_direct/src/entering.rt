@@ -122,7 +122,7 @@ pub(crate) fn value_on(
             };
             enter_on(site, run, store, &call, parts, deep, out)
         }
-        Callee::Native(which) => native_on(site, run, store, this, args, depth, which, out),
+        Callee::Native(which) => native_on(site, run, store, this, args, depth, which, deep, out),
         Callee::Nothing => throw(site, run, store, Fault::E2, out),
     }
 }

@@ -16,6 +16,7 @@ mod catching;
 mod choosing;
 mod entering;
 mod forms;
+mod gathering;
 mod going;
 mod leaves;
 mod literals;

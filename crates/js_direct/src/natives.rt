@@ -7,15 +7,16 @@ ghost use Rattle.widget_meaning.specs.Plan.{Do, Ret, RunNative};
 ghost use Rattle.js_image.specs.Image.{all_seen, seen};
 ghost use Rattle.js_image.specs.Held.{AreFine, IsFine, Kept};
 ghost use Rattle.js_names.specs.Code.{trees_of};
-ghost use Rattle.js_values.specs.Answers.{IsCarried, IsFineOut};
-ghost use Rattle.js_calls.specs.Called.{given};
+ghost use Rattle.js_values.specs.Answers.{AreFineCalls, IsCarried, IsFineOut, IsNoFire, called};
+ghost use Rattle.js_calls.specs.Called.{given, kept_as};
 ghost use Rattle.js_direct.specs.Comes.{Comes, IsReady};
 
+use crate::gathering::gather_on;
 use crate::run::{Ended, Run, Site, handed, leave_job, set_value};
 use code_units::Memory;
 use js_calls::answer;
-use js_flow::{Args, Flow, Job, NativeCall};
-use js_values::{Meter, NativeOut};
+use js_flow::{Args, Flow, Gathering, Job, Keep, NativeCall};
+use js_values::{Keep as Keeps, Meter, NativeOut, Plan};
 use object_store::{NativeId, Store, Value};
 use std::alloc::Global;
 use std::mem;
@@ -24,6 +25,7 @@ use store_natives::call;
 /// A native, which takes a unit of its own. One that needs the page or keeps a note, and one for which the
 /// units that are left do not suffice, is left to frames.
 #[inline(never)]
+#[cycle(direct)]
 pub(crate) fn native_on(
     site: &Site,
     run: &mut Run,
@@ -32,6 +34,7 @@ pub(crate) fn native_on(
     args: &mut Args,
     depth: u32,
     which: NativeId,
+    deep: u32,
     out: &mut Value,
 ) -> Result<Ended, Memory>
     requires ready { IsReady (trees_of site.now.codes.now.items) site.now.widget store.old run.old }
@@ -61,19 +64,21 @@ pub(crate) fn native_on(
         None => native_far(site.alloc, run, this, args, depth, which),
         Some(found) => {
             run.units = meter.left();
-            given_on(site, run, store, found, depth, out)
+            given_on(site, run, store, found, depth, deep, out)
         }
     }
 }
 
 // What a native answered, which was called by a caller at this depth.
 #[inline(always)]
+#[cycle(direct)]
 fn given_on(
     site: &Site,
     run: &mut Run,
     store: &mut Store,
     found: NativeOut,
     depth: u32,
+    deep: u32,
     out: &mut Value,
 ) -> Result<Ended, Memory>
     requires ready { IsReady (trees_of site.now.codes.now.items) site.now.widget store.old run.old }
@@ -88,7 +93,53 @@ fn given_on(
             set_value(out, value);
             Ok(Ended::Is)
         }
+        NativeOut::Call(plan) => called_on(site, run, store, plan, depth, deep, out),
         found => given_by_frames(site, run, store, found, depth, out),
+    }
+}
+
+// The calls that a native asks for: those with each item of a list are carried out in place.
+#[inline(never)]
+#[cycle(direct)]
+fn called_on(
+    site: &Site,
+    run: &mut Run,
+    store: &mut Store,
+    plan: Plan,
+    depth: u32,
+    deep: u32,
+    out: &mut Value,
+) -> Result<Ended, Memory>
+    requires ready { IsReady (trees_of site.now.codes.now.items) site.now.widget store.old run.old }
+    requires held { AreFineCalls site.now.widget store.old.cells plan × IsNoFire plan }
+    ensures comes { let F = trees_of site.now.codes.now.items in let w = site.now.widget in
+        IfOk result (λ how. (node : ℕ → ℕ) → Comes F w store.old store.new 15
+        (called (seen w store.old.cells) node depth plan) run.old run.new how out.new) }
+    ensures kept { Kept (trees_of site.now.codes.now.items) site.now.widget store.old store.new }
+{
+    match plan {
+        Plan::Gather { func, items, keep } => {
+            let g = Gathering {
+                func,
+                items,
+                results: Vec::new(site.alloc),
+                keep: kept(keep),
+                depth,
+            };
+            gather_on(site, run, store, Box::new(site.alloc, g)?, deep, out)
+        }
+        plan => given_by_frames(site, run, store, NativeOut::Call(plan), depth, out),
+    }
+}
+
+// What is kept of calls, as frames have it.
+fn kept(keep: Keeps) -> Keep
+    ensures { result ≡ kept_as keep }
+{
+    match keep {
+        Keeps::Nothing => Keep::Nothing,
+        Keeps::Results => Keep::Results,
+        Keeps::Passing => Keep::Passing,
     }
 }
 

@@ -85,6 +85,21 @@ use Rattle.js_flow.specs.declared.job.Completion.{Completion}
 use Rattle.js_tree.specs.Lists.{stmt_list}
 use Rattle.widget_meaning.specs.Properties.{names_of}
 use Rattle.js_flow.specs.declared.frame.ForInNames.{ForInNames}
+use Rattle.std.specs.Prelude.{slice_get}
+use Rattle.std.proofs.lemmas.List.{length_push}
+use Rattle.widget_meaning.specs.Natives.{run_native}
+use Rattle.js_values.specs.Answers.{AreFineCalls, IsCarried, IsFineOut, called}
+use Rattle.js_values.specs.declared.outcome.NativeOut.{NativeOut}
+use Rattle.js_calls.proofs.Pairs.{fine_at}
+use Rattle.js_calls.proofs.Repeated.{gather_start, within}
+use Rattle.js_calls.specs.Called.{gather_left, given}
+use Rattle.js_flow.specs.declared.frame.Gathering.{Gathering}
+use Rattle.js_flow.specs.Fine.{FineGathering}
+use Rattle.store_natives.specs.Done.{Done}
+use Rattle.js_direct.specs.Gathered.{IsMore}
+use Rattle.js_direct.proofs.FormFrames.{gives_value}
+use Rattle.js_direct.proofs.Gathers.{item_called, item_passes, more_fine, more_goes, next_item}
+use Rattle.js_direct.proofs.InPlace.{at_same, native_runs}
 
 pub arrays::array_on-returns-in-Cell-clause-comes : goal.arrays::array_on-returns-in-Cell-clause-comes
 arrays::array_on-returns-in-Cell-clause-comes t c =
@@ -2511,11 +2526,14 @@ entering::value_on-enter_on-requires t c = (
   ),
 )
 
-pub entering::value_on-native_on-requires-clause-ready : goal.entering::value_on-native_on-requires-clause-ready
-entering::value_on-native_on-requires-clause-ready t c = c.requires.ready
-
-pub entering::value_on-native_on-requires-clause-held : goal.entering::value_on-native_on-requires-clause-held
-entering::value_on-native_on-requires-clause-held t c = (c.requires.held.1, c.requires.held.2)
+pub entering::value_on-native_on-requires : goal.entering::value_on-native_on-requires
+entering::value_on-native_on-requires t c = (
+  search rules,
+  (
+    (c.requires.ready),
+    ((c.requires.held.1, c.requires.held.2)),
+  ),
+)
 
 pub entering::value_on-throw-requires : goal.entering::value_on-throw-requires
 entering::value_on-throw-requires t c = record { ready = c.requires.ready }
@@ -6065,3 +6083,307 @@ targets::deleted_on-returns-in_default-clause-comes t c =
     let part = c.in_ok-other.ensures.comes in
     let kept = c.in_ok-other.ensures.kept in
     hand_form fs w c.hand_delete.result old mid 0 30 p form.Delete had has c.hand_delete.new.run how out (target_ends fs w old mid 0 p had has how of out part c.in_default.not-Is) c.in_default.not-Is kept tt (omega arith) c.hand_delete.ensures
+
+pub natives::native_on-call-requires-clause-confined : goal.natives::native_on-call-requires-clause-confined
+natives::native_on-call-requires-clause-confined t c = (trees_of c.args.site.now.codes.now.items, c.requires.ready.1)
+
+pub natives::native_on-call-requires-clause-held : goal.natives::native_on-call-requires-clause-held
+natives::native_on-call-requires-clause-held t c = (c.requires.held.0, subst (AreFine c.args.site.now.widget c.args.store.now.cells) (sym c.as_slice.ensures) c.requires.held.1)
+
+pub natives::native_on-given_on-requires : goal.natives::native_on-given_on-requires
+natives::native_on-given_on-requires t c = (
+  search rules,
+  (
+    (c.requires.ready.0, (c.call.ensures.kept (trees_of c.args.site.now.codes.now.items)).confined c.requires.ready.1, c.requires.ready.2),
+    (let done = rw c.in-Some.is at c.in_ok-found.ensures.done in (done.fine, done.carried)),
+  ),
+)
+
+pub natives::native_on-returns-then-run-eq0-clause-comes : goal.natives::native_on-returns-then-run-eq0-clause-comes
+natives::native_on-returns-then-run-eq0-clause-comes t c =
+    IfOk-weaker c.native_far.result _ _
+    (λ how h. h (trees_of c.args.site.now.codes.now.items) c.args.site.now.widget c.args.store.now c.args.out.now c.requires.held.0 c.requires.held.1)
+    c.native_far.ensures.comes
+
+pub natives::native_on-returns-then-run-eq0-clause-kept : goal.natives::native_on-returns-then-run-eq0-clause-kept
+natives::native_on-returns-then-run-eq0-clause-kept t c = kept_same (trees_of c.args.site.now.codes.now.items) c.args.site.now.widget c.args.store.now c.args.store.now refl
+
+pub natives::native_on-returns-in_err-found-clause-kept : goal.natives::native_on-returns-in_err-found-clause-kept
+natives::native_on-returns-in_err-found-clause-kept t c = c.call.ensures.kept (trees_of c.args.site.now.codes.now.items)
+
+pub natives::native_on-returns-in-None-clause-comes : goal.natives::native_on-returns-in-None-clause-comes
+natives::native_on-returns-in-None-clause-comes t c =
+    let fs = trees_of c.args.site.now.codes.now.items in
+    let w = c.args.site.now.widget in
+    let s = c.args.store.now in
+    IfOk-weaker c.native_far-in-None.result _ _
+    (λ how h. at_same fs w s c.call.new.store 0 _ c.args.run.now c.native_far-in-None.new.run how (ended_as how c.args.out.now) (rw c.in-None.is at c.in_ok-found.ensures.none).0
+    (h fs w s c.args.out.now c.requires.held.0 c.requires.held.1))
+    c.native_far-in-None.ensures.comes
+
+pub natives::native_on-returns-in-None-clause-kept : goal.natives::native_on-returns-in-None-clause-kept
+natives::native_on-returns-in-None-clause-kept t c = c.call.ensures.kept (trees_of c.args.site.now.codes.now.items)
+
+pub natives::native_on-returns-in-Some-clause-comes : goal.natives::native_on-returns-in-Some-clause-comes
+natives::native_on-returns-in-Some-clause-comes t c =
+    let fs = trees_of c.args.site.now.codes.now.items in
+    let w = c.args.site.now.widget in
+    let s = c.args.store.now in
+    let t = c.call.new.store in
+    let this = option_map (seen w s.cells) c.args.this.now in
+    let vs = all_seen w s.cells c.args.args.now.items in
+    let before = c.new-meter.result.left in
+    let left = c.call.new.meter.left in
+    let found = c.in-Some.found in
+    let done : Done w s t before left (run_native c.args.which this vs) found = subst (λ (l : List Value2). Done w s t before left (run_native c.args.which this (all_seen w s.cells l)) found) c.as_slice.ensures (rw c.in-Some.is at c.in_ok-found.ensures.done) in
+    let mid = record c.args.run.now { units = c.left-run.result } in
+    IfOk-weaker c.given_on.result _ _
+    (λ how h. native_runs fs w s t c.given_on.new.store c.args.which this vs c.args.depth before left found done c.requires.ready.1 c.args.run.now mid c.given_on.new.run how (ended_as how c.given_on.new.out)
+    (omega (arith, ap (λ m. m.left) c.new-meter.ensures, c.if-run-eq0.false)) (sym c.left-run.ensures.value) (h (λ n. n)))
+    c.given_on.ensures.comes
+
+pub natives::native_on-returns-in-Some-clause-kept : goal.natives::native_on-returns-in-Some-clause-kept
+natives::native_on-returns-in-Some-clause-kept t c = kept_then (trees_of c.args.site.now.codes.now.items) c.args.site.now.widget c.args.store.now c.call.new.store c.given_on.new.store (c.call.ensures.kept (trees_of c.args.site.now.codes.now.items)) c.given_on.ensures.kept
+
+pub natives::given_on-returns-in-Value-clause-comes : goal.natives::given_on-returns-in-Value-clause-comes
+natives::given_on-returns-in-Value-clause-comes t c =
+    let fs = trees_of c.args.site.now.codes.now.items in
+    let w = c.args.site.now.widget in
+    let s = c.args.store.now in
+    λ node. subst (λ (v : Value2). Comes fs w s s 15 (given w s.cells node c.args.depth c.args.found) c.args.run.now c.args.run.now ended.Is v) (sym c.set_value.ensures)
+    (gives_value fs w s s 15 (given w s.cells node c.args.depth c.args.found) c.args.run.now c.in-Value.value c.requires.ready.2
+    (λ r. ap (λ (o : NativeOut). given w s.cells node c.args.depth o (image fs r w s)) c.in-Value.is)
+    (subst (λ (o : NativeOut). IsFineOut w s.cells o) c.in-Value.is c.requires.held.0) (omega arith))
+
+pub natives::given_on-returns-in_default-clause-comes : goal.natives::given_on-returns-in_default-clause-comes
+natives::given_on-returns-in_default-clause-comes t c = c.given_by_frames.ensures.comes
+
+pub natives::given_on-returns-in-Value-clause-kept : goal.natives::given_on-returns-in-Value-clause-kept
+natives::given_on-returns-in-Value-clause-kept t c = kept_same (trees_of c.args.site.now.codes.now.items) c.args.site.now.widget c.args.store.now c.args.store.now refl
+
+pub natives::given_on-returns-in_default-clause-kept : goal.natives::given_on-returns-in_default-clause-kept
+natives::given_on-returns-in_default-clause-kept t c = c.given_by_frames.ensures.kept
+
+pub natives::given_on-called_on-requires : goal.natives::given_on-called_on-requires
+natives::given_on-called_on-requires t c = (
+  search rules,
+  (
+    (c.requires.ready),
+    (subst (λ (o : NativeOut). IsFineOut c.args.site.now.widget c.args.store.now.cells o × IsCarried o) c.in-Call.is c.requires.held),
+  ),
+)
+
+pub natives::given_on-returns-in-Call-clause-comes : goal.natives::given_on-returns-in-Call-clause-comes
+natives::given_on-returns-in-Call-clause-comes t c =
+    let fs = trees_of c.args.site.now.codes.now.items in
+    let w = c.args.site.now.widget in
+    let s = c.args.store.now in
+    let u = c.called_on.new.store in
+    IfOk-weaker c.called_on.result _ _
+    (λ how h node. subst (λ (o : NativeOut). Comes fs w s u 15 (given w s.cells node c.args.depth o) c.args.run.now c.called_on.new.run how c.called_on.new.out) (sym c.in-Call.is) (h node))
+    c.called_on.ensures.comes
+
+pub natives::given_on-returns-in-Call-clause-kept : goal.natives::given_on-returns-in-Call-clause-kept
+natives::given_on-returns-in-Call-clause-kept t c = c.called_on.ensures.kept
+
+pub natives::called_on-gather_on-requires : goal.natives::called_on-gather_on-requires
+natives::called_on-gather_on-requires t c = (
+  search rules,
+  (
+    (c.requires.ready),
+    (
+        let w = c.args.site.now.widget in
+        let s = c.args.store.now in
+        let fine = subst (AreFineCalls w s.cells) c.in-Gather.is c.requires.held.0 in
+        subst (FineGathering w s.cells) (sym c.in_ok-new-in-Gather.ensures.ok) (fine.0, fine.1, subst (AreFine w s.cells) (sym c.new.ensures.items) tt)
+        ),
+  ),
+)
+
+pub natives::called_on-returns-in_ok-new-in-Gather-clause-comes : goal.natives::called_on-returns-in_ok-new-in-Gather-clause-comes
+natives::called_on-returns-in_ok-new-in-Gather-clause-comes t c =
+    let fs = trees_of c.args.site.now.codes.now.items in
+    let w = c.args.site.now.widget in
+    let s = c.args.store.now in
+    let u = c.gather_on.new.store in
+    let ok = c.in_ok-new-in-Gather.ensures.ok in
+    let g = c.in_ok-new-in-Gather.field-0.value in
+    IfOk-weaker c.gather_on.result _ _
+    (λ how h node. instead fs w s u 15 15 (gather_left w s.cells g) (called (seen w s.cells) node c.args.depth c.args.plan) c.args.run.now c.gather_on.new.run how _ h
+    (λ r. ap (λ p. called (seen w s.cells) node c.args.depth p (image fs r w s)) c.in-Gather.is
+    ∙ sym (gather_start w s.cells (image fs r w s) g c.in-Gather.func c.in-Gather.items.items c.in-Gather.keep c.args.depth
+    (ap (λ g. g.func) ok) (ap (λ g. g.items.items) ok) (ap (λ g. g.results.items) ok ∙ c.new.ensures.items) (ap (λ g. g.keep) ok ∙ c.kept.ensures) (ap (λ g. g.depth) ok)))
+    (omega arith))
+    c.gather_on.ensures.comes
+
+pub natives::called_on-returns-in_ok-new-in-Gather-clause-kept : goal.natives::called_on-returns-in_ok-new-in-Gather-clause-kept
+natives::called_on-returns-in_ok-new-in-Gather-clause-kept t c = c.gather_on.ensures.kept
+
+pub natives::called_on-returns-in_default-clause-comes : goal.natives::called_on-returns-in_default-clause-comes
+natives::called_on-returns-in_default-clause-comes t c = c.given_by_frames.ensures.comes
+
+pub natives::called_on-returns-in_default-clause-kept : goal.natives::called_on-returns-in_default-clause-kept
+natives::called_on-returns-in_default-clause-kept t c = c.given_by_frames.ensures.kept
+
+pub gathering::gather_on-item_on-requires : goal.gathering::gather_on-item_on-requires
+gathering::gather_on-item_on-requires t c = (
+  search rules,
+  (
+    (c.items.invariant.ready),
+    (
+        let w = c.args.site.now.widget in
+        let mid = c.items.store in
+        let g = c.items.g.value in
+        let held = c.items.invariant.held in
+        let at = subst (λ (q : Gathering). slice_get q.items.items (length q.results.items) ≡ Some c.in-Some.item) c.deref.ensures (sym c.in_ok-item.ensures ∙ c.in-Some.is) in
+        subst (λ (q : Gathering). IsHeld w mid.cells q.func × IsFine w mid.cells c.in-Some.item) (sym c.deref-in-Some.ensures) (held.0, fine_at w mid.cells g.items.items (length g.results.items) c.in-Some.item at held.1)
+        ),
+  ),
+)
+
+pub gathering::gather_on-items-preserved : goal.gathering::gather_on-items-preserved
+gathering::gather_on-items-preserved t c =
+    let fs = trees_of c.args.site.now.codes.now.items in
+    let w = c.args.site.now.widget in
+    let old = c.args.store.now in
+    let mid = c.items.store in
+    let new = c.item_on.new.store in
+    let was = c.items.invariant in
+    let g = c.items.g in
+    let at = subst (λ (q : Gathering). slice_get q.items.items (length q.results.items) ≡ Some c.in-Some.item) c.deref.ensures (sym c.in_ok-item.ensures ∙ c.in-Some.is) in
+    let step = c.in_ok-how.ensures in
+    let part = subst (λ (q : Gathering). Comes fs w mid new 0 (item_called w mid.cells q c.in-Some.item) c.items.run c.item_on.new.run c.in_ok-how.how c.item_on.new.out) c.deref-in-Some.ensures step.comes in
+    let more = subst (λ (v : Value2). IsMore g.value c.in_ok-more-in-Is.more.value v) c.take_value.ensures.taken c.in_ok-more-in-Is.ensures in
+    record {
+      goes = goes_both fs w old mid new _ _ _ c.args.run.now c.items.run c.item_on.new.run was.goes
+          (more_goes fs w mid new g c.in-Some.item at was.held step.kept c.items.run c.item_on.new.run c.in_ok-how.how c.item_on.new.out part c.in_ok-more-in-Is.more.value more c.in-Is.is);
+      ready = value_ready fs w mid new 0 (item_called w mid.cells g.value c.in-Some.item) c.items.run c.item_on.new.run c.in_ok-how.how _ part c.in-Is.is step.kept was.ready;
+      held = more_fine fs w mid new g c.in-Some.item at was.held step.kept c.items.run c.item_on.new.run c.in_ok-how.how c.item_on.new.out part c.in_ok-more-in-Is.more.value more c.in-Is.is;
+      kept = kept_then fs w old mid new was.kept step.kept;
+    }
+
+pub gathering::gather_on-items-smaller : goal.gathering::gather_on-items-smaller
+gathering::gather_on-items-smaller t c =
+    let g = c.items.g.value in
+    let at = subst (λ (q : Gathering). slice_get q.items.items (length q.results.items) ≡ Some c.in-Some.item) c.deref.ensures (sym c.in_ok-item.ensures ∙ c.in-Some.is) in
+    let more = c.in_ok-more-in-Is.ensures in
+    let long = length_push g.results.items c.take_value.result in
+    omega (arith, within g.items.items (length g.results.items) c.in-Some.item at, ap (λ xs. length xs.items) more.items, ap (λ xs. length xs) more.results, long)
+
+pub gathering::gather_on-returns-in_err-item-clause-kept : goal.gathering::gather_on-returns-in_err-item-clause-kept
+gathering::gather_on-returns-in_err-item-clause-kept t c = c.items.invariant.kept
+
+pub gathering::gather_on-returns-in_err-how-clause-kept : goal.gathering::gather_on-returns-in_err-how-clause-kept
+gathering::gather_on-returns-in_err-how-clause-kept t c =
+    kept_then (trees_of c.args.site.now.codes.now.items) c.args.site.now.widget c.args.store.now c.items.store c.item_on.new.store c.items.invariant.kept c.item_on.ensures.kept
+
+pub gathering::gather_on-returns-in_err-more-in-Is-clause-kept : goal.gathering::gather_on-returns-in_err-more-in-Is-clause-kept
+gathering::gather_on-returns-in_err-more-in-Is-clause-kept t c =
+    kept_then (trees_of c.args.site.now.codes.now.items) c.args.site.now.widget c.args.store.now c.items.store c.item_on.new.store c.items.invariant.kept c.item_on.ensures.kept
+
+pub gathering::gather_on-returns-in-Left-clause-comes : goal.gathering::gather_on-returns-in-Left-clause-comes
+gathering::gather_on-returns-in-Left-clause-comes t c =
+    let fs = trees_of c.args.site.now.codes.now.items in
+    let w = c.args.site.now.widget in
+    let old = c.args.store.now in
+    let mid = c.items.store in
+    let new = c.item_on.new.store in
+    let was = c.items.invariant in
+    let g = c.items.g in
+    let at = subst (λ (q : Gathering). slice_get q.items.items (length q.results.items) ≡ Some c.in-Some.item) c.deref.ensures (sym c.in_ok-item.ensures ∙ c.in-Some.is) in
+    let step = c.in_ok-how.ensures in
+    let how = c.in_ok-how.how in
+    let out = c.item_on.new.out in
+    let part = subst (λ (q : Gathering). Comes fs w mid new 0 (item_called w mid.cells q c.in-Some.item) c.items.run c.item_on.new.run how out) c.deref-in-Some.ensures step.comes in
+    let p : State → Plan = item_called w mid.cells g.value c.in-Some.item in
+    let f = frame.Call (call.Gather g) in
+    IfOk-weaker c.wait.result _ _
+    (λ h x. goes_then fs w old mid new 15 _ (gather_left w mid.cells g.value) c.args.run.now c.items.run c.wait.new.run h _ was.goes
+    (instead fs w mid new 1 15 (λ s. and_then (p s) (taken fs w mid.cells f)) (gather_left w mid.cells g.value) c.items.run c.wait.new.run h _ x (λ r. next_item fs w mid.cells (image fs r w mid) g.value c.in-Some.item at) (omega arith)))
+    (frame_waits fs w c.wait.result mid new 0 1 p f c.items.run c.item_on.new.run c.wait.new.run how (ended_as how out) (λ (h : Ended). ended_as h out) part c.in-Left.is step.kept was.held (omega arith)
+    c.wait.ensures.left c.wait.ensures.waits c.wait.ensures.next c.wait.ensures.units)
+
+pub gathering::gather_on-returns-in-Left-clause-kept : goal.gathering::gather_on-returns-in-Left-clause-kept
+gathering::gather_on-returns-in-Left-clause-kept t c =
+    kept_then (trees_of c.args.site.now.codes.now.items) c.args.site.now.widget c.args.store.now c.items.store c.item_on.new.store c.items.invariant.kept c.item_on.ensures.kept
+
+pub gathering::gather_on-returns-in_default-2 : goal.gathering::gather_on-returns-in_default-2
+gathering::gather_on-returns-in_default-2 t c =
+    let fs = trees_of c.args.site.now.codes.now.items in
+    let w = c.args.site.now.widget in
+    let old = c.args.store.now in
+    let mid = c.items.store in
+    let new = c.item_on.new.store in
+    let was = c.items.invariant in
+    let g = c.items.g in
+    let at = subst (λ (q : Gathering). slice_get q.items.items (length q.results.items) ≡ Some c.in-Some.item) c.deref.ensures (sym c.in_ok-item.ensures ∙ c.in-Some.is) in
+    let step = c.in_ok-how.ensures in
+    let how = c.in_ok-how.how in
+    let out = c.item_on.new.out in
+    let part = subst (λ (q : Gathering). Comes fs w mid new 0 (item_called w mid.cells q c.in-Some.item) c.items.run c.item_on.new.run how out) c.deref-in-Some.ensures step.comes in
+    record {
+      comes = goes_then fs w old mid new 15 _ _ c.args.run.now c.items.run c.item_on.new.run how _ was.goes
+          (item_passes fs w mid new g c.in-Some.item at was.held step.kept c.items.run c.item_on.new.run how out part c.in_default-2.not-Is c.in_default-2.not-Left);
+      kept = kept_then fs w old mid new was.kept step.kept;
+    }
+
+pub gathering::gather_on-gathered_on-requires-clause-ready : goal.gathering::gather_on-gathered_on-requires-clause-ready
+gathering::gather_on-gathered_on-requires-clause-ready t c = c.items.invariant.ready
+
+pub gathering::gather_on-gathered_on-requires-clause-held : goal.gathering::gather_on-gathered_on-requires-clause-held
+gathering::gather_on-gathered_on-requires-clause-held t c = c.items.invariant.held
+
+pub gathering::gather_on-returns-clause-comes : goal.gathering::gather_on-returns-clause-comes
+gathering::gather_on-returns-clause-comes t c =
+    let fs = trees_of c.args.site.now.codes.now.items in
+    let w = c.args.site.now.widget in
+    IfOk-weaker c.gathered_on.result _ _
+    (λ how h. goes_then fs w c.args.store.now c.items.store c.gathered_on.new.store 15 _ _ c.args.run.now c.items.run c.gathered_on.new.run how _ c.items.invariant.goes h)
+    c.gathered_on.ensures.comes
+
+pub gathering::gather_on-returns-clause-kept : goal.gathering::gather_on-returns-clause-kept
+gathering::gather_on-returns-clause-kept t c =
+    kept_then (trees_of c.args.site.now.codes.now.items) c.args.site.now.widget c.args.store.now c.items.store c.gathered_on.new.store c.items.invariant.kept c.gathered_on.ensures.kept
+
+pub gathering::item_on-call_far-requires : goal.gathering::item_on-call_far-requires
+gathering::item_on-call_far-requires t c = record { waits = c.requires.ready.2 }
+
+pub gathering::item_on-returns-then-run-eq0-clause-comes : goal.gathering::item_on-returns-then-run-eq0-clause-comes
+gathering::item_on-returns-then-run-eq0-clause-comes t c =
+    let fs = trees_of c.args.site.now.codes.now.items in
+    let w = c.args.site.now.widget in
+    let s = c.args.store.now in
+    let fine : AreFine w s.cells c.in_ok-args.args.items = subst (AreFine w s.cells) (sym c.in_ok-args.ensures) (c.requires.held.1, (tt, tt)) in
+    IfOk-weaker c.call_far.result _ _
+    (λ how h. subst (λ vs. Comes fs w s s 0 (λ x. Do (plan.Call (seen w s.cells (value.Ref c.args.g.now.func)) None (all_seen w s.cells vs) c.args.g.now.depth) x Ret) c.args.run.now c.call_far.new.run how c.args.out.now)
+    c.in_ok-args.ensures (h fs w s c.args.out.now c.requires.held.0 fine))
+    c.call_far.ensures.comes
+
+pub gathering::item_on-value_far-requires : goal.gathering::item_on-value_far-requires
+gathering::item_on-value_far-requires t c = (
+  search rules,
+  (
+    (c.requires.ready),
+    (
+        let w = c.args.site.now.widget in
+        let s = c.args.store.now in
+        (c.requires.held.0, tt, subst (AreFine w s.cells) (sym c.in_ok-args.ensures) (c.requires.held.1, (tt, tt)))
+        ),
+  ),
+)
+
+pub gathering::item_on-returns-clause-comes : goal.gathering::item_on-returns-clause-comes
+gathering::item_on-returns-clause-comes t c =
+    let fs = trees_of c.args.site.now.codes.now.items in
+    let w = c.args.site.now.widget in
+    let s = c.args.store.now in
+    let u = c.value_far.new.store in
+    let func = seen w s.cells (value.Ref c.args.g.now.func) in
+    let d = c.args.g.now.depth in
+    let vs = all_seen w s.cells c.in_ok-args.args.items in
+    let same = ap (all_seen w s.cells) c.in_ok-args.ensures in
+    IfOk-weaker c.value_far.result _ _
+    (λ how h. instead fs w s u 0 0 (λ x. Do (plan.Call func None vs d) x Ret) (item_called w s.cells c.args.g.now c.args.item) c.args.run.now c.value_far.new.run how _
+    (unit_first fs w s u 4 0 (plan.Call func None vs d) (invoke func None vs d) Ret c.args.run.now _ c.value_far.new.run how _ (less_one c.args.run.now.units c.if-run-eq0.false) (λ x. and_then_ret (invoke func None vs d x)) h (omega arith))
+    (λ r. ap (λ l. Do (plan.Call func None l d) (image fs r w s) Ret) (sym same)) (omega arith))
+    c.value_far.ensures.comes

@@ -11,7 +11,8 @@ use Rattle.widget_meaning.specs.Expressions.{array_parts, object_parts}
 use Rattle.js_image.specs.Image.{seen}
 use Rattle.js_image.specs.Held.{IsFine, IsHeld, Kept}
 use Rattle.js_names.specs.Code.{trees_of}
-use Rattle.js_flow.specs.Fine.{FineNames, IsBlockAt, IsExprAt, IsStmtAt}
+use Rattle.js_calls.specs.Called.{gather_left}
+use Rattle.js_flow.specs.Fine.{FineGathering, FineNames, IsBlockAt, IsExprAt, IsStmtAt}
 use Rattle.js_flow.specs.Parts.{arguments_of, block_list, clauses_of, decls_of, elements_of, forest_at, properties_of}
 use Rattle.js_flow.specs.Views.{job_of, place_of}
 use Rattle.js_direct.specs.Comes.{IsReady}
@@ -444,3 +445,31 @@ decreases-targets::index_of_target l = 16 * l.deep + 2
 
 abbrev pub decreases-targets::found_target : goal.decreases-targets::found_target
 decreases-targets::found_target l = 16 * l.deep + 14
+
+abbrev pub decreases-natives::native_on : goal.decreases-natives::native_on
+decreases-natives::native_on l = 16 * l.deep + 4
+
+abbrev pub decreases-natives::given_on : goal.decreases-natives::given_on
+decreases-natives::given_on l = 16 * l.deep + 3
+
+abbrev pub decreases-natives::called_on : goal.decreases-natives::called_on
+decreases-natives::called_on l = 16 * l.deep + 2
+
+abbrev pub decreases-gathering::gather_on : goal.decreases-gathering::gather_on
+decreases-gathering::gather_on l = 16 * l.deep + 1
+
+-- the items that have results were called with
+abbrev pub invariant-gathering::gather_on-items : goal.invariant-gathering::gather_on-items
+invariant-gathering::gather_on-items l =
+    record {
+      goes : GoesOn (trees_of l.site.codes.now.items) l.site.widget l.initial.store l.store (gather_left l.site.widget l.initial.store.cells l.initial.g.value) (gather_left l.site.widget l.store.cells l.g.value) l.initial.run l.run;
+      ready : IsReady (trees_of l.site.codes.now.items) l.site.widget l.store l.run;
+      held : FineGathering l.site.widget l.store.cells l.g.value;
+      kept : Kept (trees_of l.site.codes.now.items) l.site.widget l.initial.store l.store;
+    }
+
+abbrev pub decreases-gathering::gather_on-items : goal.decreases-gathering::gather_on-items
+decreases-gathering::gather_on-items l = length l.g.value.items.items - length l.g.value.results.items
+
+abbrev pub decreases-gathering::item_on : goal.decreases-gathering::item_on
+decreases-gathering::item_on l = 16 * l.deep + 0
