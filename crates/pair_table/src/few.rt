@@ -1,10 +1,12 @@
 //! Few pairs, in a plain list that is searched from its front.
-ghost use Rattle.std.specs.Prelude.{◌≡◌, ◌+◌, ◌-◌, ◌<◌, ◌≤◌, ℕ, List, [], ◌∷◌, None, Some, nat_eq, nat_lt, length, filter, slice_get, position, swap_remove, option_map, option_copied, vec_capacity, IfSome, IfNone, IsOk, OnOk, OnErr};
+ghost use Rattle.std.specs.Prelude.{◌≡◌, ◌+◌, ◌-◌, ◌<◌, ◌≤◌, ℕ, List, [], ◌∷◌, None, Some, nat_eq, nat_lt, length, filter, slice_get, position, swap_remove, option_map, option_copied, vec_capacity, true, IfSome, IfNone, IsOk, OnOk, OnErr};
 ghost use Rattle.std.specs.List.{IsDistinct};
 ghost use Rattle.std.specs.Map.{keys_of, lookup, remove_entry};
 ghost use Rattle.std.specs.Map.Iter.{deref_pair};
 ghost use Rattle.indexmap.specs.IndexMap.{insert_entry, spare};
+ghost use Rattle.pair_table.specs.Rising.{AreNear, IsRising};
 
+use crate::rising::guess;
 use indexmap::IndexMap;
 use keyed_names::NumberKeys;
 use std::alloc::{AllocError, Global};
@@ -38,14 +40,27 @@ impl<V> Model for FewPairs<V> {
 
 // The place of a number in a list.
 #[inline(always)]
-fn place_in<V>(list: &[(u32, V)], n: u32) -> Option<usize>
+pub(crate) fn place_in<V>(list: &[(u32, V)], n: u32) -> Option<usize>
     ensures { result ≡ position (λ e. nat_eq n e.0) list.now }
 {
     list.iter().position(|pair| n == pair.0)
 }
 
+// Whether each pair stands where `guess` looks for its number.
+fn all_near<V>(list: &[(u32, V)]) -> bool
+    ensures { result ≡ true → AreNear (length list.now) (keys_of list.now) }
+{
+    for at in 0..list.len() {
+        let near = guess(list[at].0);
+        if near != at {
+            return false;
+        }
+    }
+    true
+}
+
 // Inserts pairs whose numbers differ into a map without pairs that has room for them.
-fn insert_all<V: Drop>(list: Vec<(u32, V)>, map: &mut IndexMap<u32, V, NumberKeys>)
+pub(crate) fn insert_all<V: Drop>(list: Vec<(u32, V)>, map: &mut IndexMap<u32, V, NumberKeys>)
     requires distinct { IsDistinct nat_eq (keys_of list.items) }
     requires empty { map.old.entries ≡ [] }
     requires room { length list.items ≤ spare map.old }
@@ -60,7 +75,7 @@ fn insert_all<V: Drop>(list: Vec<(u32, V)>, map: &mut IndexMap<u32, V, NumberKey
 }
 
 // Makes room in a list: no more than is asked for in an empty one, so that a single pair takes little.
-fn make_room<V>(list: &mut Vec<(u32, V)>, additional: usize) -> Result<(), AllocError>
+pub(crate) fn make_room<V>(list: &mut Vec<(u32, V)>, additional: usize) -> Result<(), AllocError>
     ensures items { list.new.items ≡ list.old.items }
     ensures ok { OnOk result (length list.new.items + additional ≤ vec_capacity list.new) }
     ensures capacity { vec_capacity list.old ≤ vec_capacity list.new }
@@ -131,6 +146,13 @@ impl<V> FewPairs<V> {
         *self.list.allocator()
     }
 
+    /// Whether each pair stands where `guess` looks for its number.
+    pub(crate) fn rises(&self) -> bool
+        ensures { result ≡ true → IsRising (length self.now.entries) (keys_of self.now.entries) }
+    {
+        all_near(&self.list)
+    }
+
     /// Makes room for so many more pairs, where these are few then.
     pub(crate) fn reserve(&mut self, additional: usize) -> Result<(), AllocError>
         ensures entries { self.new.entries ≡ self.old.entries }
@@ -194,6 +216,14 @@ impl<V: Drop> FewPairs<V> {
         let alloc = self.allocator();
         let list = mem::replace(&mut self.list, Vec::new(alloc));
         insert_all(list, map);
+    }
+
+    /// The list, which it has no more.
+    pub(crate) fn take_list(&mut self) -> Vec<(u32, V)>
+        ensures { result.items ≡ self.old.entries }
+    {
+        let alloc = self.allocator();
+        mem::replace(&mut self.list, Vec::new(alloc))
     }
 
     /// Takes the pair at a place out, and puts the last one into its place.

@@ -2,6 +2,7 @@
 #![tactic(auto)]
 
 mod few;
+mod rising;
 mod table;
 
 pub use table::PairTable;

@@ -4,9 +4,11 @@ ghost use Rattle.std.specs.List.{IsDistinct};
 ghost use Rattle.std.specs.Map.{keys_of, lookup, remove_entry};
 ghost use Rattle.std.specs.Map.Iter.{deref_pair};
 ghost use Rattle.indexmap.specs.IndexMap.{insert_entry, spare};
+ghost use Rattle.pair_table.specs.Rising.{IsRising};
 ghost use Rattle.pair_table.specs.Storage.{HasPlaces, pairs_in};
 
 use crate::few::{FewPairs, MOST_FEW};
+use crate::rising::{RisingPairs, guess};
 use indexmap::IndexMap;
 use keyed_names::NumberKeys;
 use std::alloc::{AllocError, Global};
@@ -26,6 +28,7 @@ pub struct PairTable<V> {
 #[derive(Drop)]
 enum Storage<V> {
     Few(FewPairs<V>),
+    Rising(Box<RisingPairs<V>>),
     Many(Box<IndexMap<u32, V, NumberKeys>>),
 }
 
@@ -69,6 +72,7 @@ impl<V> PairTable<V> {
     {
         match &self.storage {
             Storage::Few(few) => few.len(),
+            Storage::Rising(rising) => rising.len(),
             Storage::Many(map) => map.len(),
         }
     }
@@ -87,6 +91,7 @@ impl<V> PairTable<V> {
     {
         match &self.storage {
             Storage::Few(few) => few.get(n),
+            Storage::Rising(rising) => rising.get(n),
             Storage::Many(map) => get_in(map, n),
         }
     }
@@ -98,6 +103,7 @@ impl<V> PairTable<V> {
     {
         match &self.storage {
             Storage::Few(few) => few.place(n),
+            Storage::Rising(rising) => rising.place(n),
             Storage::Many(map) => place_in(map, n),
         }
     }
@@ -108,12 +114,27 @@ impl<V> PairTable<V> {
     {
         match &self.storage {
             Storage::Few(few) => few.get_index(place),
+            Storage::Rising(rising) => rising.get_index(place),
             Storage::Many(map) => map.get_index(place),
         }
     }
 }
 
 impl<V: Drop> PairTable<V> {
+    /// A table without pairs that has room for so many elements of an array.
+    pub fn with_elements(
+        alloc: Global,
+        key: NumberKeys,
+        room: usize,
+    ) -> Result<PairTable<V>, AllocError>
+        ensures { IfOk result (λ t. t.entries ≡ []) }
+    {
+        let rising = empty_rising(alloc, key, room)?;
+        Ok(PairTable {
+            storage: Storage::Rising(rising),
+        })
+    }
+
     /// Puts a value under a number that is at a place.
     #[inline(always)]
     pub fn set(&mut self, n: u32, place: usize, value: V)
@@ -122,6 +143,7 @@ impl<V: Drop> PairTable<V> {
     {
         match &mut self.storage {
             Storage::Few(few) => few.set(n, place, value),
+            Storage::Rising(rising) => rising.set(n, place, value),
             Storage::Many(map) => set_in(map, n, place, value),
         }
     }
@@ -137,6 +159,7 @@ impl<V: Drop> PairTable<V> {
         }
         match &mut self.storage {
             Storage::Few(few) => few.reserve(additional),
+            Storage::Rising(rising) => rising.reserve(additional),
             Storage::Many(map) => map.reserve(additional),
         }
     }
@@ -162,6 +185,7 @@ impl<V: Drop> PairTable<V> {
     {
         match &mut self.storage {
             Storage::Few(few) => few.insert(n, value),
+            Storage::Rising(rising) => rising.insert(n, value),
             Storage::Many(map) => insert_in(map, n, value),
         }
     }
@@ -172,11 +196,27 @@ impl<V: Drop> PairTable<V> {
     {
         match &mut self.storage {
             Storage::Few(few) => {
-                let map = into_map(few, *key, additional)?;
+                let storage = spilled(few, *key, additional)?;
+                self.storage = storage;
+                Ok(())
+            }
+            Storage::Rising(rising) => {
+                let map = rising_map(rising, additional)?;
                 self.storage = Storage::Many(map);
                 Ok(())
             }
             Storage::Many(map) => map.reserve(additional),
+        }
+    }
+
+    // A list from whose midst a pair goes becomes a map, where there is memory for one.
+    fn settle(&mut self)
+        ensures { self.new.entries ≡ self.old.entries }
+    {
+        if let Storage::Rising(rising) = &mut self.storage {
+            if let Ok(map) = rising_map(rising, 0) {
+                self.storage = Storage::Many(map);
+            }
         }
     }
 
@@ -186,8 +226,19 @@ impl<V: Drop> PairTable<V> {
         ensures entries { IfSome result (λ p. self.new.entries ≡ swap_remove self.old.entries place p) }
         ensures unchanged { IfNone result (self.new.entries ≡ self.old.entries) }
     {
+        self.settle();
+        self.swap_out(place)
+    }
+
+    // The same, of any table.
+    fn swap_out(&mut self, place: usize) -> Option<(u32, V)>
+        ensures entry { result ≡ slice_get self.old.entries place }
+        ensures entries { IfSome result (λ p. self.new.entries ≡ swap_remove self.old.entries place p) }
+        ensures unchanged { IfNone result (self.new.entries ≡ self.old.entries) }
+    {
         match &mut self.storage {
             Storage::Few(few) => few.swap_remove_index(place),
+            Storage::Rising(rising) => rising.swap_remove_index(place),
             Storage::Many(map) => map.swap_remove_index(place),
         }
     }
@@ -198,6 +249,7 @@ impl<V: Drop> PairTable<V> {
     {
         match &mut self.storage {
             Storage::Few(few) => few.shift_remove(n),
+            Storage::Rising(rising) => rising.shift_remove(n),
             Storage::Many(map) => {
                 let _value = map.shift_remove(&n);
             }
@@ -210,16 +262,10 @@ impl<V: Drop> PairTable<V> {
     {
         match &mut self.storage {
             Storage::Few(few) => few.retain_below(bound),
+            Storage::Rising(rising) => rising.retain_below(bound),
             Storage::Many(map) => retain_in(map, bound),
         }
     }
-}
-
-// Where a map is looked at first: the elements of an array come in order behind its length, and no other number up to
-// the last index is 1 or less.
-#[inline(always)]
-fn guess(n: u32) -> usize {
-    n.saturating_sub(1) as usize
 }
 
 // Whether a number is at a place.
@@ -293,6 +339,10 @@ fn outgrows<V>(storage: &Storage<V>, additional: usize) -> bool
             let len = few.len();
             len > MOST_FEW || additional > MOST_FEW - len
         }
+        Storage::Rising(rising) => {
+            let others = rising.others();
+            others > MOST_FEW || additional > MOST_FEW - others
+        }
         Storage::Many(_) => false,
     }
 }
@@ -315,6 +365,79 @@ fn into_map<V: Drop>(
     let empty = IndexMap::with_capacity_and_hasher(alloc, room, key)?;
     let mut map = Box::new(alloc, empty)?;
     few.pour(&mut map);
+    Ok(map)
+}
+
+// Where the pairs of a list go that cannot hold so many more.
+fn spilled<V: Drop>(
+    few: &mut FewPairs<V>,
+    key: NumberKeys,
+    additional: usize,
+) -> Result<Storage<V>, AllocError>
+    ensures ok { IfOk result (λ s. (pairs_in s).entries ≡ few.old.entries) }
+    ensures err { OnErr result (few.new ≡ few.old) }
+{
+    if is_rising(few, additional) {
+        let rising = into_rising(few, key)?;
+        return Ok(Storage::Rising(rising));
+    }
+    let map = into_map(few, key, additional)?;
+    Ok(Storage::Many(map))
+}
+
+// Whether pairs stand where a rising list has them, which has places for so many others.
+fn is_rising<V>(few: &FewPairs<V>, additional: usize) -> bool
+    ensures { result ≡ true → IsRising (length few.now.entries) (keys_of few.now.entries) }
+{
+    if few.len() == 0 || additional > MOST_FEW {
+        return false;
+    }
+    few.rises()
+}
+
+// A rising list with the pairs of a list, which it has no more. For want of memory the list stays.
+fn into_rising<V: Drop>(
+    few: &mut FewPairs<V>,
+    key: NumberKeys,
+) -> Result<Box<RisingPairs<V>>, AllocError>
+    requires { IsRising (length few.old.entries) (keys_of few.old.entries) }
+    ensures entries { IfOk result (λ rising. rising.value.entries ≡ few.old.entries) }
+    ensures err { OnErr result (few.new ≡ few.old) }
+{
+    let mut rising = empty_rising(few.allocator(), key, 0)?;
+    rising.fill(few.take_list());
+    Ok(rising)
+}
+
+// A rising list without pairs that has room for so many.
+fn empty_rising<V: Drop>(
+    alloc: Global,
+    key: NumberKeys,
+    room: usize,
+) -> Result<Box<RisingPairs<V>>, AllocError>
+    ensures { IfOk result (λ rising. rising.value.entries ≡ []) }
+{
+    let empty = RisingPairs::with_room(alloc, key, room)?;
+    Ok(Box::new(alloc, empty)?)
+}
+
+// A map with the pairs of a rising list, which it has no more, and with room for so many more. For want of memory
+// the list stays.
+fn rising_map<V: Drop>(
+    rising: &mut RisingPairs<V>,
+    additional: usize,
+) -> Result<Box<IndexMap<u32, V, NumberKeys>>, AllocError>
+    ensures entries { IfOk result (λ map. map.value.entries ≡ rising.old.entries) }
+    ensures room { IfOk result (λ map. additional ≤ spare map.value) }
+    ensures err { OnErr result (rising.new ≡ rising.old) }
+{
+    let Some(room) = rising.len().checked_add(additional) else {
+        return Err(AllocError);
+    };
+    let alloc = rising.allocator();
+    let empty = IndexMap::with_capacity_and_hasher(alloc, room, rising.key())?;
+    let mut map = Box::new(alloc, empty)?;
+    rising.pour(&mut map);
     Ok(map)
 }
 

@@ -1,5 +1,5 @@
 //! A cell by the numbers of its names.
-ghost use Rattle.std.specs.Prelude.{◌≡◌, ℕ, suc, List, [], None, Some, true, false, is_some, nat_eq, if◌then◌else◌, OnErr, OnOk, option_copied, option_map, slice_get, IfSome, ◌<◌, length, IfOk};
+ghost use Rattle.std.specs.Prelude.{◌≡◌, ℕ, position, suc, List, [], None, Some, true, false, is_some, nat_eq, if◌then◌else◌, OnErr, OnOk, option_copied, option_map, slice_get, IfSome, ◌<◌, length, IfOk};
 ghost use Rattle.std.specs.List.{IsDistinct, list_any};
 ghost use Rattle.std.specs.Map.{keys_of as numbers_of, lookup};
 ghost use Rattle.std.specs.Fmt.{decimal};
@@ -7,7 +7,7 @@ ghost use Rattle.std.specs.Option.{option_map_or};
 ghost use Rattle.store_cells.specs.Arrays.{count_value, keys_of, length_in};
 ghost use Rattle.store_cells.specs.Cells.{is_array, is_scope, writer_in};
 ghost use Rattle.store_cells.specs.Holes.{is_reference_below};
-ghost use Rattle.store_cells.specs.Numbered.{NumberedCell, element_plan, first_numbered, found_in, is_length_in, is_listed, node_head, numbered_cut, numbered_element, numbered_has, numbered_held, numbered_length, numbered_two, numbered_without, numbered_written, own_place, plain, plan_of, references_in};
+ghost use Rattle.store_cells.specs.Numbered.{NumberedCell, element_plan, first_numbered, found_in, is_length_in, is_listed, live, node_head, noted, numbered_cut, numbered_element, numbered_has, numbered_held, numbered_length, numbered_two, numbered_without, numbered_written, own_place, plain, plan_of, references_in, refers_at};
 ghost use Rattle.store_cells.specs.Shape.{IsIndexed, Known};
 
 use crate::indices::Elements;
@@ -72,6 +72,9 @@ pub enum Write {
     Longer { len: u32 },
 }
 
+// The most pairs that stand in a list whose numbers may be any.
+const MOST_FEW: usize = 16;
+
 /// The number of the name `length`.
 pub const LENGTH: u32 = 0;
 
@@ -105,6 +108,21 @@ fn element_plan(len: u32, index: Option<u32>) -> Write
         Some(i) if i < len => Write::Own { end: i + 1 },
         Some(i) => Write::Longer { len: i + 1 },
     }
+}
+
+// Where an element stands that is noted, where its value is no reference.
+fn plain_place(table: &PairTable<Value>, elements: &Elements, n: u32, at: u32) -> Option<usize>
+    ensures place { IfSome result (λ p. position (nat_eq n) (numbers_of table.now.entries) ≡ Some p) }
+    ensures noted { IfSome result (λ p. noted (suc at) n elements.now ≡ elements.now) }
+    ensures plain { IfSome result (λ p. refers_at n (live table.now.entries) ≡ false) }
+{
+    if !elements.is_noted(at, n) {
+        return None;
+    }
+    if pairs::refers(table, n) {
+        return None;
+    }
+    table.get_index_of(n)
 }
 
 impl Cell {
@@ -149,6 +167,22 @@ impl Cell {
             holes: 0,
             references: 0,
             table,
+            elements: Elements::new(maker.alloc),
+        })
+    }
+
+    /// A cell without pairs that has room for a length and so many elements.
+    pub fn with_elements(maker: Maker, head: Head, count: usize) -> Result<Cell, Memory>
+        ensures { IfOk result (λ c. c ≡ record { head = head; elements = []; references = 0; entries = [] }) }
+    {
+        if count < MOST_FEW {
+            return Cell::with_room(maker, head, count + 1);
+        }
+        Ok(Cell {
+            head,
+            holes: 0,
+            references: 0,
+            table: PairTable::with_elements(maker.alloc, maker.key, count.saturating_add(1))?,
             elements: Elements::new(maker.alloc),
         })
     }
@@ -417,8 +451,27 @@ impl Cell {
         Ok(())
     }
 
-    // Writes under the name of an element.
+    // Writes under the name of an element. A value that is no reference is written over another such one in its place.
     fn write_element(&mut self, n: u32, value: Value, at: u32) -> Result<(), Memory>
+        requires name { n < FIRST_HOLE }
+        requires few { self.old.references < 4294967295 }
+        ensures ok { OnOk result (self.new ≡ numbered_written n value (suc at) self.old) }
+        ensures err { OnErr result (self.new ≡ self.old) }
+    {
+        if value.is_reference() {
+            return self.write_any(n, value, at);
+        }
+        match plain_place(&self.table, &self.elements, n, at) {
+            Some(place) => {
+                self.table.set(n, place, value);
+                Ok(())
+            }
+            None => self.write_any(n, value, at),
+        }
+    }
+
+    // The same of any value.
+    fn write_any(&mut self, n: u32, value: Value, at: u32) -> Result<(), Memory>
         requires name { n < FIRST_HOLE }
         requires few { self.old.references < 4294967295 }
         ensures ok { OnOk result (self.new ≡ numbered_written n value (suc at) self.old) }

@@ -86,6 +86,17 @@ impl Elements {
         }
     }
 
+    /// Whether a name is noted as an index already; no, where that is not by rule.
+    #[inline(always)]
+    pub(crate) fn is_noted(&self, at: u32, n: u32) -> bool
+        ensures { result ≡ true → noted (suc at) n self.now ≡ self.now }
+    {
+        match &self.table {
+            None => false,
+            Some(table) => table.is_noted(at, n),
+        }
+    }
+
     /// Takes out the last element, where it is one from an index on.
     pub(crate) fn pop_past(&mut self, n: u32) -> Option<u32>
         ensures popped { MatchOption result ((self.new ≡ self.old) × IsNonePast n self.old)
@@ -135,6 +146,16 @@ impl Indices {
             return false;
         }
         is_far_below(&self.far, n)
+    }
+
+    #[inline(always)]
+    fn is_noted(&self, at: u32, n: u32) -> bool
+        ensures { result ≡ true → noted (suc at) n self.now ≡ self.now }
+    {
+        if at < self.upto {
+            return ruled_number(at) == n;
+        }
+        false
     }
 
     // An index below `upto` is noted already, under its number by rule and under no other.

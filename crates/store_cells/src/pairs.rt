@@ -234,8 +234,9 @@ pub(crate) fn has_reference(table: &PairTable<Value>, names: &PropertyNames, n: 
     false
 }
 
-// Whether the value under a name refers to a cell.
-fn refers(table: &PairTable<Value>, n: u32) -> bool
+/// Whether the value under a name refers to a cell.
+#[inline(always)]
+pub(crate) fn refers(table: &PairTable<Value>, n: u32) -> bool
     ensures { result ≡ refers_at n (live table.now.entries) }
 {
     match value(table, n) {

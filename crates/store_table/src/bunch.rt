@@ -48,7 +48,7 @@ fn array_of(
     requires few { length values.now ≤ SLOT_LIMIT }
     ensures { IfOk result (λ c. IsArrayOf names.now head (length values.now) values.now c) }
 {
-    let mut cell = Cell::with_room(maker, head, values.len() + 1)?;
+    let mut cell = Cell::with_elements(maker, head, values.len())?;
     cell.write(LENGTH, count_value(values.len() as u32), 0)?;
     for at in 0..values.len() {
         let value = value_at(values, at)?;
