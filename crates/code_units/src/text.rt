@@ -1,5 +1,5 @@
 //! A shared text of 16-bit units, which keeps no hash, and a hint where it was found last.
-ghost use Rattle.std.specs.Prelude.{◌≡◌, IfOk};
+ghost use Rattle.std.specs.Prelude.{◌≡◌, IfOk, true};
 
 use crate::feeding::feed;
 use crate::memory::Memory;
@@ -20,6 +20,25 @@ struct Shared {
 
 // The hint of a text that was not looked up yet.
 const NO_HINT: u32 = u32::MAX;
+
+// The most units of a text that is compared in place.
+const SHORT: usize = 12;
+
+// Whether units are the same, without a call.
+#[inline(always)]
+fn are_same(a: &[u16], b: &[u16]) -> bool
+    ensures { result ≡ true → a.now ≡ b.now }
+{
+    if a.len() != b.len() {
+        return false;
+    }
+    for k in 0..a.len() {
+        if a[k] != b[k] {
+            return false;
+        }
+    }
+    true
+}
 
 /// A shared list of 16-bit units.
 #[derive(Drop)]
@@ -68,6 +87,14 @@ impl Text {
     /// Where a table of names has it, as the last one to set the hint knew; any number, else.
     pub fn hint(&self) -> u32 {
         self.shared.hint.get()
+    }
+
+    /// Whether both are short, and the same.
+    #[inline(always)]
+    pub fn is_short_same(&self, other: &Text) -> bool
+        ensures { result ≡ true → self.now ≡ other.now }
+    {
+        self.units().len() <= SHORT && are_same(self.units(), other.units())
     }
 
     /// Sets the hint, for all holders of the text.

@@ -257,9 +257,31 @@ pub fn variable_at<'a>(store: &'a Store, scope: Option<CellId>, name: &Text) -> 
     value_at(store, scope, name)
 }
 
+// The value of a short name that the scope itself has, as most have.
+#[inline(always)]
+fn soon_at<'a>(store: &'a Store, scope: Option<CellId>, name: &Text) -> Option<&'a Value>
+    requires { IfSome scope (λ i. i < length store.now.cells) }
+    ensures { IfSome result (λ v. v.now ≡ stored_value store.now.cells scope name.now) }
+{
+    let from = scope?;
+    store.var_few(from, name)
+}
+
 // The value of a variable, or else of a listed global.
 #[inline(always)]
 fn value_at<'a>(store: &'a Store, scope: Option<CellId>, name: &Text) -> Option<&'a Value>
+    requires { IfSome scope (λ i. i < length store.now.cells) }
+    ensures { unwrap_or (option_copied result) Value.Undefined ≡ stored_value store.now.cells scope name.now }
+{
+    match soon_at(store, scope, name) {
+        Some(value) => Some(value),
+        None => value_far(store, scope, name),
+    }
+}
+
+// The same of any name and scope.
+#[inline(never)]
+fn value_far<'a>(store: &'a Store, scope: Option<CellId>, name: &Text) -> Option<&'a Value>
     requires { IfSome scope (λ i. i < length store.now.cells) }
     ensures { unwrap_or (option_copied result) Value.Undefined ≡ stored_value store.now.cells scope name.now }
 {

@@ -70,6 +70,18 @@ impl Names {
         }
     }
 
+    /// The number under which a short name was found last, where it has it.
+    #[inline(always)]
+    pub fn quick(&self, name: &Text) -> Option<u32>
+        ensures found { IfSome result (λ n. (slice_get self.now n ≡ Some name.now) × (n < length self.now)) }
+    {
+        let n = name.hint();
+        match self.set.get_index(n as usize) {
+            Some(known) if known.is_short_same(name) => Some(n),
+            _ => None,
+        }
+    }
+
     /// The number under which the name was found last, where it has it.
     #[inline(always)]
     pub fn hinted(&self, name: &Text) -> Option<u32>

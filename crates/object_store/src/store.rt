@@ -542,6 +542,16 @@ impl Store {
         self.get_along(scope, name)
     }
 
+    /// The same of a short name, where the scope itself has it among few.
+    #[inline(always)]
+    pub fn var_few(&self, scope: CellId, name: &Text) -> Option<&Value>
+        requires { scope < length self.now.cells }
+        ensures { IfSome result (λ v. first_own name.now (chain self.now.cells scope) ≡ Some v.now) }
+    {
+        let n = self.names.quick(name)?;
+        table::own_few(&self.cells, scope, n)
+    }
+
     /// The first own value under a name, from the cell on along its prototypes (ECMA-262 3rd
     /// edition, 8.6.2.1); of a Bunch, whose own pair is hidden, from its prototype on. None exactly
     /// where no such cell has the name.

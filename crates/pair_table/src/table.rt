@@ -96,6 +96,17 @@ impl<V> PairTable<V> {
         }
     }
 
+    /// The value under a number, where there are few pairs and it is one of them.
+    #[inline(always)]
+    pub fn get_few(&self, n: u32) -> Option<&V>
+        ensures { IfSome result (λ v. lookup (nat_eq n) self.now.entries ≡ Some v.now) }
+    {
+        match &self.storage {
+            Storage::Few(few) => few.get(n),
+            _ => None,
+        }
+    }
+
     /// The place of a number.
     #[inline(always)]
     pub fn get_index_of(&self, n: u32) -> Option<usize>

@@ -1,5 +1,5 @@
 //! Names of properties.
-ghost use Rattle.std.specs.Prelude.{◌≡◌, ◌<◌, ◌^◌, length, IfOk, OnErr, Some, None, false, slice_get, option_copied, MatchOption, codes, not, ◌&&◌};
+ghost use Rattle.std.specs.Prelude.{◌≡◌, ◌<◌, ◌^◌, length, IfOk, IfSome, OnErr, Some, None, false, slice_get, option_copied, MatchOption, codes, not, ◌&&◌};
 ghost use Rattle.std.specs.Fmt.{decimal};
 ghost use Rattle.std.specs.List.{list_any};
 ghost use Rattle.std.specs.Option.{option_and_then, option_map_or};
@@ -181,6 +181,17 @@ impl PropertyNames {
             Some(place) => Some(shifted(place)),
             None => self.looked_up(name),
         }
+    }
+
+    /// The number of a short name that was found before.
+    #[inline(always)]
+    pub fn quick(&self, name: &Text) -> Option<u32>
+        ensures { IfSome result (λ n. (slice_get self.now n ≡ Some name.now) × (n < length self.now)) }
+    {
+        // To read the field opens what the type keeps.
+        let _names = &self.names;
+        let place = self.names.quick(name)?;
+        Some(shifted(place))
     }
 
     /// The number of the name that an index below the bound is.

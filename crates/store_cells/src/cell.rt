@@ -361,6 +361,14 @@ impl Cell {
         pairs::value(&self.table, n)
     }
 
+    /// The value under a name of its own, where it has few names and this is one of them.
+    #[inline(always)]
+    pub fn own_few(&self, n: u32) -> Option<&Value>
+        ensures { IfSome result (λ v. lookup (nat_eq n) self.now.entries ≡ Some v.now) }
+    {
+        pairs::few_value(&self.table, n)
+    }
+
     /// Where its table has a name of its own. A name stays where it is till one is taken out.
     #[inline(always)]
     pub fn place_of(&self, n: u32) -> Option<usize>

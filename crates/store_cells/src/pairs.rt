@@ -35,6 +35,18 @@ pub(crate) fn value(table: &PairTable<Value>, n: u32) -> Option<&Value>
     if n < FIRST_HOLE { table.get(n) } else { None }
 }
 
+/// The value under a name, where the table has few and it is one of them.
+#[inline(always)]
+pub(crate) fn few_value(table: &PairTable<Value>, n: u32) -> Option<&Value>
+    ensures { IfSome result (λ v. lookup (nat_eq n) (live table.now.entries) ≡ Some v.now) }
+{
+    if n < FIRST_HOLE {
+        table.get_few(n)
+    } else {
+        None
+    }
+}
+
 /// The place of a name in the table.
 #[inline(always)]
 pub(crate) fn place_of(table: &PairTable<Value>, n: u32) -> Option<usize>

@@ -105,6 +105,15 @@ fn found_on(cells: &[Cell], from: CellId, n: u32) -> Option<&Value>
     None
 }
 
+/// The value that a cell itself has under the name, where it has few names and this is one of them.
+#[inline(always)]
+pub fn own_few(cells: &Vec<Cell>, from: CellId, n: u32) -> Option<&Value>
+    ensures { IfSome result (λ v. numbered_along cells.now.items from n ≡ Some v.now) }
+{
+    let cell = cell_on(cells, from)?;
+    cell.own_few(n)
+}
+
 /// The cell at a place.
 pub fn cell(cells: &Vec<Cell>, i: CellId) -> &Cell
     requires { i < vec_len cells.now }
