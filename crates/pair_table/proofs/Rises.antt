@@ -1,5 +1,5 @@
 -- Numbers that tell their places.
-use Rattle.std.proofs.Common.{◌≡◌, ℕ, zero, suc, ◌+◌, ◌-◌, ◌<◌, ◌≤◌, List, [], ◌∷◌, ◌++◌, length, map, get_or, drop, min, remove, refl, sym, ap, ◌∙◌, subst, Option, Some, None, arith, Bool, true, false, eqb, cond, not, nat_lt, slice_get, position}
+use Rattle.std.proofs.Common.{◌≡◌, ℕ, zero, suc, ◌+◌, ◌-◌, ◌<◌, ◌≤◌, List, [], ◌∷◌, ◌++◌, length, get_or, drop, min, remove, refl, sym, ap, ◌∙◌, Some, None, arith, Bool, true, false, eqb, cond, not, nat_lt, slice_get, position}
 use Rattle.std.specs.Cmp.{nat_eq_equiv}
 use Rattle.std.specs.List.{IsDistinct, position_or_len}
 use Rattle.std.specs.Map.{keys_of}
@@ -41,16 +41,13 @@ shifted a b u = by (nat_lt a b) refl (nat_lt (u + a) (u + b)) refl
 
 -- a number that does not stand before a place is looked for from it on
 or_len_behind : (n : ℕ) (ks : List ℕ) (upto : ℕ) → upto ≤ length ks → IsNoneBefore upto n ks → position_or_len (eqb n) ks ≡ upto + position_or_len (eqb n) (drop upto ks)
-or_len_behind n ks zero le none = refl
+or_len_behind n ks zero le none = omega arith
 or_len_behind n [] (suc u) le none = absurd (omega (arith, le))
-or_len_behind n (k ∷ ks) (suc u) le none = by (eqb n k) refl
+or_len_behind n (k ∷ ks) (suc u) le none = by (or_len_behind n ks u (omega (arith, le)) (λ p lt at. none (suc p) (omega (arith, lt)) at)) (eqb n k) refl
   where
-    rest : position_or_len (eqb n) ks ≡ u + position_or_len (eqb n) (drop u ks)
-    rest = or_len_behind n ks u (omega (arith, le)) (λ p lt at. none (suc p) (omega (arith, lt)) at)
-
-    by : (b : Bool) → eqb n k ≡ b → cond (not (eqb n k)) (1 + position_or_len (eqb n) ks) 0 ≡ suc u + position_or_len (eqb n) (drop u ks)
-    by true e = absurd (none zero (omega arith) (ap (λ m. Some m) (sym (same_number n k e))))
-    by false e = ap (λ b. cond (not b) (1 + position_or_len (eqb n) ks) 0) e ∙ ap suc rest
+    by : position_or_len (eqb n) ks ≡ u + position_or_len (eqb n) (drop u ks) → (b : Bool) → eqb n k ≡ b → cond (not (eqb n k)) (1 + position_or_len (eqb n) ks) 0 ≡ suc u + position_or_len (eqb n) (drop u ks)
+    by rest true e = absurd (none zero (omega arith) (ap (λ m. Some m) (sym (same_number n k e))))
+    by rest false e = ap (λ b. cond (not b) (1 + position_or_len (eqb n) ks) 0) e ∙ (omega (arith, rest))
 
 pub from_behind : (n : ℕ) (ks : List ℕ) (upto : ℕ) → upto ≤ length ks → IsNoneBefore upto n ks → position (eqb n) ks ≡ option_map (λ i. upto + i) (position (eqb n) (drop upto ks))
 from_behind n ks upto le none =

@@ -13,6 +13,6 @@ pairs_in (Many map) = record { entries = map.value.entries; spare = spare map.va
 
 -- a list has places for so many more pairs; the others have room, or make it
 abbrev pub HasPlaces : {V : Type 0} → ℕ → Storage V → Type 0
-HasPlaces n (Few few) = length few.entries + n ≤ 16
+HasPlaces n (Few few) = length few.entries + n ≤ 32
 HasPlaces n (Rising rising) = Unit {0}
 HasPlaces n (Many map) = Unit {0}

@@ -14,7 +14,7 @@ use std::marker::Model;
 use std::mem;
 
 /// The most pairs that stand in a list.
-pub(crate) const MOST_FEW: usize = 16;
+pub(crate) const MOST_FEW: usize = 32;
 
 /// Pairs in a list. There is none before the first allocation, and the first pair alone takes room
 /// for one.
@@ -33,7 +33,7 @@ impl<V> Model for FewPairs<V> {
 
     ghost coded = { pairs_code V.code };
 
-    ghost view = { λ f. record { entries = f.list.items; spare = min (vec_capacity f.list) 16 - length f.list.items } };
+    ghost view = { λ f. record { entries = f.list.items; spare = min (vec_capacity f.list) 32 - length f.list.items } };
 
     ghost invariant = { λ f. IsDistinct nat_eq (keys_of f.list.items) };
 }
@@ -111,7 +111,7 @@ impl<V> FewPairs<V> {
     pub(crate) fn len(&self) -> usize
         ensures len { result ≡ length self.now.entries }
         ensures distinct { IsDistinct nat_eq (keys_of self.now.entries) }
-        ensures room { self.now.spare ≤ 16 - length self.now.entries }
+        ensures room { self.now.spare ≤ 32 - length self.now.entries }
     {
         self.list.len()
     }
@@ -156,7 +156,7 @@ impl<V> FewPairs<V> {
     /// Makes room for so many more pairs, where these are few then.
     pub(crate) fn reserve(&mut self, additional: usize) -> Result<(), AllocError>
         ensures entries { self.new.entries ≡ self.old.entries }
-        ensures ok { OnOk result (length self.old.entries + additional ≤ 16 → additional ≤ self.new.spare) }
+        ensures ok { OnOk result (length self.old.entries + additional ≤ 32 → additional ≤ self.new.spare) }
     {
         make_room(&mut self.list, additional)
     }

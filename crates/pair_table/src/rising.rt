@@ -33,7 +33,7 @@ impl<V> Model for RisingPairs<V> {
 
     ghost coded = { pairs_code V.code };
 
-    ghost view = { λ r. record { entries = r.list.items; spare = min (vec_capacity r.list) (r.upto + 16) - length r.list.items } };
+    ghost view = { λ r. record { entries = r.list.items; spare = min (vec_capacity r.list) (r.upto + 32) - length r.list.items } };
 
     ghost invariant = { λ r. IsRising r.upto (keys_of r.list.items) };
 }
@@ -104,7 +104,7 @@ impl<V> RisingPairs<V> {
 
     /// How many of them do not stand where `guess` looks for their numbers. The room ends where these are no longer few.
     pub(crate) fn others(&self) -> usize
-        ensures { self.now.spare ≤ 16 - result }
+        ensures { self.now.spare ≤ 32 - result }
     {
         self.list.len() - self.upto
     }
@@ -153,7 +153,7 @@ impl<V> RisingPairs<V> {
         ensures entries { self.new.entries ≡ self.old.entries }
         ensures ok { OnOk result (additional ≤ self.new.spare) }
     {
-        let others = self.others();
+        let others = self.list.len() - self.upto;
         if others > MOST_FEW || additional > MOST_FEW - others {
             return Err(AllocError);
         }

@@ -73,7 +73,7 @@ pub enum Write {
 }
 
 // The most pairs that stand in a list whose numbers may be any.
-const MOST_FEW: usize = 16;
+const MOST_FEW: usize = 32;
 
 /// The number of the name `length`.
 pub const LENGTH: u32 = 0;

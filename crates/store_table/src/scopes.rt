@@ -20,7 +20,7 @@ use store_cells::cell::{Cell, Head, Maker};
 use store_cells::{CellId, FirstNames, Value};
 
 /// The most pairs of a cell that stand in a plain list; more want a table that hashes.
-const MOST_FEW: usize = 16;
+const MOST_FEW: usize = 32;
 
 // The value at a place, undefined where there is none.
 #[inline(always)]

@@ -1,4 +1,4 @@
-use Rattle.std.proofs.Common.{◌∙◌, ◌-◌, ℕ, ap, arith, length, sym}
+use Rattle.std.proofs.Common.{◌∙◌, arith, length, sym}
 use Rattle.std.specs.Map.{keys_of}
 use Rattle.pair_table.proofs.Rises.{near_all, near_next, near_none}
 use Rattle.pair_table.proofs.few.all_near.Goals as goal
@@ -10,9 +10,9 @@ pub loop-at-preserved : goal.loop-at-preserved
 loop-at-preserved g c =
     let es = c.args.list.now in
     let at = c.loop-at.at in
-    let r = c.index-list-at.result.now in
+    let r = c.index-list-at.result in
     near_next es at r c.loop-at.invariant (omega (arith, c.loop-at-test.true))
-    (ap (λ (e : ℕ × g.row.V.Denot). e.0 - 1) (sym c.index-list-at.ensures) ∙ sym c.guess-near.ensures ∙ (omega (arith, c.if-near-at.false)))
+    (sym c.guess-near.ensures ∙ (omega (arith, c.if-near-at.false)))
 
 pub returns : goal.returns
 returns g c = λ yes. near_all (keys_of c.args.list.now) c.loop-at.at (length c.args.list.now) (omega (arith, c.loop-at-test.false)) c.loop-at.invariant

@@ -14,4 +14,4 @@ returns c =
     let some : 0 < length cs = omega (arith, get_within cs i c.in_ok-cell.cell.now at) in
     let all : length cs ≡ length cs - 0 = omega arith in
     IfSome_then c.own_few.result c.own_few.ensures
-    (λ v e. ap (λ m. along_in cs n m (Some i)) all ∙ along_own cs n (length cs) 0 i c.in_ok-cell.cell.now v some at e)
+    (λ v e. ap (λ m. along_in cs n m (Some i)) all ∙ along_own cs n (length cs) 0 i c.in_ok-cell.cell.now v.now some at e)

@@ -1,4 +1,4 @@
-use Rattle.std.proofs.Common.{◌∙◌, ℕ, List, ap, length, subst, sym}
+use Rattle.std.proofs.Common.{ℕ, List, ap, length, subst}
 use Rattle.std.specs.Map.{keys_of}
 use Rattle.pair_table.specs.Pairs.{Pairs}
 use Rattle.pair_table.specs.Rising.{AreNear, IsRising}

@@ -13,7 +13,7 @@ invariant_of-self g c =
     let es = c.self.inside.list.items in
     let place = c.in-Some.place in
     let lt = found_within c.args.n es place found in
-    subst (λ u. IsRising u (keys_of c.remove-pair.new.self.items)) (sym c.least-self.ensures)
+    subst (λ u. IsRising u (keys_of c.remove-pair.new.self.items)) (sym c.least-self-inside.ensures)
     (subst (λ (l : List (ℕ × g.row.V.Denot)). IsRising (min c.self.inside.upto place) (keys_of l)) (sym c.remove-pair.ensures.items)
     (rising_less c.self.inside.upto place es c.self.invariant (distinct_remove c.args.n es place c.remove-pair.result c.self.invariant.differ found) (omega (arith, lt, length-keys_of es))))
 
