@@ -17,7 +17,7 @@ use query_text::first_filter;
 use query_walks::failed::{is_needed, mark_all_failed};
 use query_walks::hunt::hunt_all;
 use query_walks::nodes::test;
-use query_walks::once::{behind, each_once};
+use query_walks::once::{TriedFilters, behind, each_once};
 use query_walks::order::in_order;
 use std::alloc::Global;
 
@@ -137,7 +137,7 @@ fn filter_many(
     alloc: Global,
     page: &Page,
     focus: Option<NodeId>,
-    filters: &[StepFilter<'_>],
+    filters: &TriedFilters<'_>,
     list: Vec<NodeId>,
 ) -> Result<Vec<NodeId>, Memory>
     requires { AreNodes page.now list.items }
@@ -145,7 +145,7 @@ fn filter_many(
 {
     let failed = mark_all_failed(alloc, page, focus, filters, &list)?;
     let mut kept = list;
-    'each: for (i, filter) in filters.iter().enumerate() {
+    'each: for (i, filter) in filters.filters().iter().enumerate() {
         let needed = is_needed(&failed, i, filter);
         kept = filter_needed(alloc, page, focus, filter, needed, kept)?;
     }
@@ -174,24 +174,7 @@ fn filter_few(
     Ok(kept)
 }
 
-// The nodes that filters keep, each filter tried once.
-fn filter_long(
-    alloc: Global,
-    page: &Page,
-    focus: Option<NodeId>,
-    units: &[u16],
-    list: Vec<NodeId>,
-) -> Result<Vec<NodeId>, Memory>
-    requires nodes { AreNodes page.now list.items }
-    requires filters { AreFilters units.now }
-    ensures { IfOk result (λ kept. kept.items
-        ≡ all_filtered (nodes page.now) focus (filters_of units.now) list.items) }
-{
-    let filters = each_once(alloc, page.keys(), units, list.len())?;
-    filter_many(alloc, page, focus, &filters, list)
-}
-
-// The nodes that filters keep.
+// The nodes that filters keep. Of many each is tried once.
 fn filter_all(
     alloc: Global,
     page: &Page,
@@ -207,7 +190,8 @@ fn filter_all(
     }
     let units = filters.units();
     if units.len() > LONG {
-        return filter_long(alloc, page, focus, units, list);
+        let once = each_once(alloc, page.keys(), units, list.len())?;
+        return filter_many(alloc, page, focus, &once, list);
     }
     filter_few(alloc, page, focus, units, list)
 }

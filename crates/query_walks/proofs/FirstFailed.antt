@@ -1,17 +1,12 @@
 -- Filters that nodes fail first.
 use Rattle.std.proofs.Common.{◌≡◌, ℕ, zero, suc, ◌+◌, ◌<◌, ◌≤◌, List, [], ◌∷◌, ◌++◌, Bool, true, false, not, ◌||◌, refl, sym, ap, ◌∙◌, length, take, drop, get_or, cond, arith, eqb, eqb-true, Option, ⊎_elim}
-use Rattle.std.specs.Prelude.{set, ◌==◌}
-use Rattle.std.specs.Cmp.Lexicographic.{bytes_decides}
-use Rattle.std.specs.List.{filter, list_any, position_or_len}
-use Rattle.std.specs.Str.{bytes_eq}
+use Rattle.std.specs.Prelude.{set}
+use Rattle.std.specs.List.{filter, position_or_len}
 use Rattle.std.proofs.lemmas.Bool.{or_cases, cases_eq}
-use Rattle.std.proofs.lemmas.List.{at_drop_more, at_drop_all, take_more, take_all, get_or-set_same, get_or-set_other}
-use Rattle.std.proofs.lemmas.List.Folds.{list_any-append}
-use Rattle.indexmap.specs.IndexSet.{insert_key}
+use Rattle.std.proofs.lemmas.List.{at_drop_more, at_drop_all, take_more, get_or-set_same, get_or-set_other}
 use Rattle.page_tree.specs.Entries.{Entry}
 use Rattle.query_grammar.specs.declared.query.StepFilter.{StepFilter}
 use Rattle.query_grammar.specs.declared.query.StepFilter.TheVariants as kind
-use Rattle.query_grammar.specs.Filters.{words}
 use Rattle.query_grammar.specs.Finds.{has_number}
 use Rattle.query_grammar.proofs.Numbers.{has_both, has_first}
 use Rattle.query_grammar.proofs.Kept.{filtered_is}
@@ -19,7 +14,6 @@ use Rattle.query_grammar.proofs.Truths.{or_right, no_true, not_false, both_ways}
 use Rattle.query_walks.specs.Finds.{filtered}
 use Rattle.query_walks.specs.FirstFailed.{fails, failed_at, is_on_list}
 use Rattle.query_walks.specs.Nodes.{look, passes}
-use Rattle.query_walks.proofs.Between.{whole, parts}
 
 -- ## The first place at which a test passes
 
@@ -135,47 +129,3 @@ module _ (k : List Entry) (focus : Option ℕ) (fs : List StepFilter) (marks : L
     pub passed_one : f ≡ get_or fs i f → (n : ℕ) → has_number list n ≡ true → i + 1 ≤ failed_at k focus fs n
     passed_one is n h = goes_farther (fails k focus n) fs i f lt (passed n (was_kept n h))
         (ap (fails k focus n) (sym is) ∙ not_failed f n (sym (ap (λ l. has_number l n) e) ∙ h))
-
--- ## Words in a set
-
-turned : (a b : Bool) → (a || b) ≡ (b || (a || false))
-turned true true = refl
-turned true false = refl
-turned false true = refl
-turned false false = refl
-
-moved : (a b c : Bool) → ((a || b) || c) ≡ (b || (a || c))
-moved true true c = refl
-moved true false c = refl
-moved false true c = refl
-moved false false c = refl
-
--- a word that is there adds none
-is_there : (ks : List (List ℕ)) (k w : List ℕ) → list_any (bytes_eq k) ks ≡ true → list_any (bytes_eq w) ks ≡ (bytes_eq w k || list_any (bytes_eq w) ks)
-is_there ks k w there = by_test (bytes_eq w k) refl
-  where
-    by_test : (b : Bool) → bytes_eq w k ≡ b → list_any (bytes_eq w) ks ≡ (b || list_any (bytes_eq w) ks)
-    by_test true e = ap (λ v. list_any (bytes_eq v) ks) ((bytes_decides w k).0 e) ∙ there
-    by_test false e = refl
-
-pub word_added : (ks : List (List ℕ)) (k w : List ℕ) → list_any (bytes_eq w) (insert_key bytes_eq ks k) ≡ (bytes_eq w k || list_any (bytes_eq w) ks)
-word_added ks k w = by_test (list_any (bytes_eq k) ks) refl
-  where
-    by_test : (b : Bool) → list_any (bytes_eq k) ks ≡ b → list_any (bytes_eq w) (cond b ks (ks ++ k ∷ [])) ≡ (bytes_eq w k || list_any (bytes_eq w) ks)
-    by_test true e = is_there ks k w e
-    by_test false e = list_any-append (bytes_eq w) ks (k ∷ []) ∙ sym (turned (bytes_eq w k) (list_any (bytes_eq w) ks))
-
--- the last word of a text put into the set, and one before others
-module _ (ks new : List (List ℕ)) (k us : List ℕ) (end : ℕ) (w : List ℕ) where
-  pub last_added : new ≡ insert_key bytes_eq ks k → k ≡ take end us → end ≡ position_or_len (λ u. u == 32) us → end ≡ length us → list_any (bytes_eq w) new ≡ (list_any (bytes_eq w) ks || list_any (bytes_eq w) (words us))
-  last_added e is at ends =
-      ap (list_any (bytes_eq w)) e ∙ word_added ks k w
-      ∙ ap (λ y. bytes_eq w y || list_any (bytes_eq w) ks) (is ∙ take_all end us (omega (arith, ends)))
-      ∙ turned (bytes_eq w us) (list_any (bytes_eq w) ks)
-      ∙ ap (λ l. list_any (bytes_eq w) ks || list_any (bytes_eq w) l) (sym (whole us (sym ends ∙ at)))
-
-  pub next_added : new ≡ insert_key bytes_eq ks k → k ≡ take end us → end ≡ position_or_len (λ u. u == 32) us → end < length us → (list_any (bytes_eq w) new || list_any (bytes_eq w) (words (drop (end + 1) us))) ≡ (list_any (bytes_eq w) ks || list_any (bytes_eq w) (words us))
-  next_added e is at lt =
-      ap (λ b. b || list_any (bytes_eq w) (words (drop (end + 1) us))) (ap (list_any (bytes_eq w)) e ∙ word_added ks k w ∙ ap (λ y. bytes_eq w y || list_any (bytes_eq w) ks) is)
-      ∙ moved (bytes_eq w (take end us)) (list_any (bytes_eq w) ks) (list_any (bytes_eq w) (words (drop (end + 1) us)))
-      ∙ ap (λ l. list_any (bytes_eq w) ks || list_any (bytes_eq w) l) (sym (parts us end at lt))

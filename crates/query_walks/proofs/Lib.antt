@@ -2,6 +2,7 @@ pub mod Behind
 pub mod Between
 pub mod Downward
 pub mod FirstFailed
+pub mod Found
 pub mod Marked
 pub mod Members
 pub mod Ordered

@@ -1,12 +1,14 @@
 -- Filters that keep all nodes are left out.
-use Rattle.std.proofs.Common.{◌≡◌, ℕ, zero, suc, ◌+◌, ◌*◌, ◌-◌, ◌<◌, ◌≤◌, List, [], ◌∷◌, ◌++◌, Bool, true, false, refl, ap, sym, ◌∙◌, subst, cond, arith, eqb, ltb-false, ⊎_elim, Option, length, length-drop, map, drop, take, take-append-drop}
+use Rattle.std.proofs.Common.{◌≡◌, ℕ, zero, suc, ◌+◌, ◌*◌, ◌-◌, ◌<◌, ◌≤◌, List, [], ◌∷◌, ◌++◌, append-nil, Bool, true, false, not, refl, ap, sym, ◌∙◌, subst, cond, arith, ltb-false, ⊎_elim, Option, length, length-drop, map, drop, take, take-append-drop}
 use Rattle.std.specs.Prelude.{◌==◌, ◌%◌, ◌/◌, min, nat_lt, codes}
 use Rattle.std.specs.List.{filter, list_any, enumerate_from}
 use Rattle.std.specs.Str.{bytes_eq, byte}
 use Rattle.std.specs.Cmp.Lexicographic.{bytes_decides}
 use Rattle.std.proofs.lemmas.Bool.{or_cases}
+use Rattle.std.proofs.lemmas.List.Concat.{flat_map-append}
 use Rattle.std.proofs.lemmas.List.Folds.{list_any-append}
 use Rattle.query_grammar.specs.declared.query.Filter.{Filter}
+use Rattle.query_grammar.specs.declared.query.Filter.TheVariants as on_node
 use Rattle.query_grammar.specs.declared.query.ListFilter.TheVariants as on_list
 use Rattle.query_grammar.specs.declared.query.StepFilter.{StepFilter}
 use Rattle.query_grammar.specs.declared.query.StepFilter.TheVariants as kind
@@ -14,11 +16,13 @@ use Rattle.query_grammar.specs.Filters.{Look}
 use Rattle.query_grammar.specs.Finds.{has_number, passes, at_places, filtered, all_filtered}
 use Rattle.query_grammar.specs.Queries.{SpellsFilter, by_keyword, key_first}
 use Rattle.query_grammar.specs.Spelled.{filters_of, AreFilters, IsFirst}
-use Rattle.query_grammar.proofs.Truths.{or_right, no_true, not_false, same_number}
-use Rattle.query_grammar.proofs.Numbers.{has_first, kept_is}
-use Rattle.query_grammar.proofs.Kept.{filtered_is}
+use Rattle.query_grammar.proofs.Truths.{no_true, not_false, same_number}
+use Rattle.query_grammar.proofs.Numbers.{kept_is}
+use Rattle.query_grammar.proofs.Kept.{filtered_is, all_filtered_is}
 use Rattle.query_grammar.proofs.Spelled.{first_is}
-use Rattle.query_walks.specs.Thinned.{KeepSame, most_left, is_tried, seen_after}
+use Rattle.query_walks.specs.Classes.{class_word, class_words}
+use Rattle.query_walks.specs.Thinned.{KeepSame, most_left, is_tried, classes_after, seen_after}
+use Rattle.query_walks.proofs.FirstFailed.{all_pass, kept_passes}
 
 -- ## How many are left
 
@@ -103,20 +107,6 @@ module _ (look : ℕ → Look) (focus : Option ℕ) where
 
 -- ## What stood before
 
-kept_passes : (t : ℕ → Bool) (ns : List ℕ) (x : ℕ) → has_number (filter t ns) x ≡ true → t x ≡ true
-kept_passes t [] x h = absurd (no_true h)
-kept_passes t (n ∷ ns) x h = by_test (t n) refl (λ g. kept_passes t ns x g) h
-  where
-    by_test : (b : Bool) → t n ≡ b → (has_number (filter t ns) x ≡ true → t x ≡ true) → has_number (cond b (n ∷ filter t ns) (filter t ns)) x ≡ true → t x ≡ true
-    by_test true e more h = ⊎_elim (λ g. subst (λ y. t y ≡ true) (sym (same_number x n g)) e) more (or_cases (eqb x n) (has_number (filter t ns) x) h)
-    by_test false e more h = more h
-
-all_pass : (t : ℕ → Bool) (ns : List ℕ) → ((x : ℕ) → has_number ns x ≡ true → t x ≡ true) → filter t ns ≡ ns
-all_pass t [] h = refl
-all_pass t (n ∷ ns) h =
-    ap (λ b. cond b (n ∷ filter t ns) (filter t ns)) (h n (has_first n ns))
-    ∙ ap (λ l. n ∷ l) (all_pass t ns (λ x e. h x (or_right (eqb x n) (has_number ns x) e)))
-
 one_stays : (most : ℕ) (ns : List ℕ) → length ns ≤ most → nat_lt 1 most ≡ false → length ns ≤ 1
 one_stays most ns le h = let few = ltb-false 1 most h in omega (arith, le, few)
 
@@ -130,6 +120,10 @@ even_stays [] le = refl
 even_stays (n ∷ []) le = refl
 even_stays (n ∷ m ∷ ns) le = absurd (omega (arith, le))
 
+-- the nodes have each class of these
+abbrev HaveAll : (ℕ → Look) → Option ℕ → List (List ℕ) → List ℕ → Type 0
+HaveAll look focus classes ns = (w : List ℕ) → list_any (bytes_eq w) classes ≡ true → (x : ℕ) → has_number ns x ≡ true → passes look focus (on_node.Class w) x ≡ true
+
 -- the nodes pass each filter on nodes that these units spell
 abbrev Pass : (ℕ → Look) → Option ℕ → List (List ℕ) → List ℕ → Type 0
 Pass look focus seen ns = (k : List ℕ) → list_any (bytes_eq k) seen ≡ true → (f : Filter) → filters_of k ≡ kind.Node f ∷ [] → (x : ℕ) → has_number ns x ≡ true → passes look focus f x ≡ true
@@ -138,13 +132,24 @@ same_filter : (f g : Filter) → ◌≡◌ {A = List StepFilter} (kind.Node f �
 same_filter f g e = cc
 
 module _ (look : ℕ → Look) (focus : Option ℕ) where
+  -- what filters keep has the classes that they ask for
+  class_kept : (fs : List StepFilter) (ns : List ℕ) → HaveAll look focus (class_words fs) (all_filtered look focus fs ns)
+  class_kept [] ns w there x h = absurd (no_true there)
+  class_kept (kind.Node (on_node.Class v) ∷ fs) ns w there x h = ⊎_elim
+      (λ same. subst (λ y. passes look focus (on_node.Class y) x ≡ true) (sym ((bytes_decides w v).0 same))
+      (kept_passes (passes look focus (on_node.Class v)) ns x (all_filtered_is look focus fs (filter (passes look focus (on_node.Class v)) ns) x h)))
+      (λ later. class_kept fs (filter (passes look focus (on_node.Class v)) ns) w later x h)
+      (or_cases (bytes_eq w v) (list_any (bytes_eq w) (class_words fs)) there)
+  class_kept (f ∷ fs) ns w there x h = class_kept fs (filtered look focus f ns) w there x h
+
   -- what is not tried keeps all
-  keeps_all : (f : StepFilter) (most : ℕ) (seen : List (List ℕ)) (us : List ℕ) (ns : List ℕ) → filters_of us ≡ f ∷ [] → length ns ≤ most → Pass look focus seen ns → is_tried f most seen us ≡ false → filtered look focus f ns ≡ ns
-  keeps_all (kind.Node f) most seen us ns is le pass h = all_pass (passes look focus f) ns (λ x there. pass us (not_false (list_any (bytes_eq us) seen) h) f is x there)
-  keeps_all (kind.List on_list.First) most seen us ns is le pass h = first_stays ns (one_stays most ns le h)
-  keeps_all (kind.List on_list.Rest) most seen us ns is le pass h = cc
-  keeps_all (kind.List on_list.Even) most seen us ns is le pass h = even_stays ns (one_stays most ns le h)
-  keeps_all (kind.List on_list.Odd) most seen us ns is le pass h = cc
+  keeps_all : (f : StepFilter) (most : ℕ) (classes seen : List (List ℕ)) (us : List ℕ) (ns : List ℕ) → filters_of us ≡ f ∷ [] → length ns ≤ most → HaveAll look focus classes ns → Pass look focus seen ns → is_tried f most classes seen us ≡ false → filtered look focus f ns ≡ ns
+  keeps_all (kind.Node (on_node.Class w)) most classes seen us ns is le have pass h = all_pass (passes look focus (on_node.Class w)) ns (have w (not_false (list_any (bytes_eq w) classes) h))
+  keeps_all (kind.Node f) most classes seen us ns is le have pass h = all_pass (passes look focus f) ns (λ x there. pass us (not_false (list_any (bytes_eq us) seen) h) f is x there)
+  keeps_all (kind.List on_list.First) most classes seen us ns is le have pass h = first_stays ns (one_stays most ns le h)
+  keeps_all (kind.List on_list.Rest) most classes seen us ns is le have pass h = cc
+  keeps_all (kind.List on_list.Even) most classes seen us ns is le have pass h = even_stays ns (one_stays most ns le h)
+  keeps_all (kind.List on_list.Odd) most classes seen us ns is le have pass h = cc
 
   -- what is left of nodes passes what they passed
   pass_still : (f : StepFilter) (seen : List (List ℕ)) (ns : List ℕ) → Pass look focus seen ns → Pass look focus seen (filtered look focus f ns)
@@ -161,6 +166,7 @@ module _ (look : ℕ → Look) (focus : Option ℕ) where
       (or_cases (list_any (bytes_eq k) seen) (list_any (bytes_eq k) (us ∷ [])) (sym (list_any-append (bytes_eq k) seen (us ∷ [])) ∙ there))
 
   pass_after : (f : StepFilter) (seen : List (List ℕ)) (us : List ℕ) (ns : List ℕ) → filters_of us ≡ f ∷ [] → Pass look focus seen ns → Pass look focus (seen_after f seen us) (filtered look focus f ns)
+  pass_after (kind.Node (on_node.Class w)) seen us ns are pass = pass_still (kind.Node (on_node.Class w)) seen ns pass
   pass_after (kind.Node f) seen us ns are pass = by_test (list_any (bytes_eq us) seen)
     where
       by_test : (b : Bool) → Pass look focus (cond b seen (seen ++ us ∷ [])) (filter (passes look focus f) ns)
@@ -170,16 +176,18 @@ module _ (look : ℕ → Look) (focus : Option ℕ) where
 
 -- ## The filters that are kept
 
--- of the filters that units spell the rest is left, and those kept leave of at most so many nodes at most so many, which pass those seen
-pub record Thins (nodes : ℕ) (units rest : List ℕ) (seen : List (List ℕ)) (kept : List StepFilter) (most : ℕ) : Type 0 where
+-- of the filters that units spell the rest is left, and those kept, with these classes, leave of at most so many nodes at most so many, which pass those seen
+pub record Thins (nodes : ℕ) (units rest : List ℕ) (classes seen : List (List ℕ)) (kept : List StepFilter) (most : ℕ) : Type 0 where
   pub filters : AreFilters rest
+  pub classed : classes ≡ class_words kept
   pub few : (look : ℕ → Look) (focus : Option ℕ) (ns : List ℕ) → length ns ≤ nodes → length (all_filtered look focus kept ns) ≤ most
   pub passed : (look : ℕ → Look) (focus : Option ℕ) (ns : List ℕ) → length ns ≤ nodes → Pass look focus seen (all_filtered look focus kept ns)
   pub same : (look : ℕ → Look) (focus : Option ℕ) (ns : List ℕ) → length ns ≤ nodes → all_filtered look focus (filters_of rest) (all_filtered look focus kept ns) ≡ all_filtered look focus (filters_of units) ns
 
-pub thins_all : (nodes : ℕ) (units : List ℕ) → AreFilters units → Thins nodes units units [] [] nodes
+pub thins_all : (nodes : ℕ) (units : List ℕ) → AreFilters units → Thins nodes units units [] [] [] nodes
 thins_all nodes units are = record {
   filters = are;
+  classed = refl;
   few = λ look focus ns le. le;
   passed = λ look focus ns le k there f is x h. absurd (no_true there);
   same = λ look focus ns le. refl;
@@ -191,17 +199,36 @@ after : (look : ℕ → Look) (focus : Option ℕ) (kept : List StepFilter) (f :
 after look focus kept f true ns h = one_more look focus kept f ns
 after look focus kept f false ns h = sym (h refl)
 
-module _ (nodes : ℕ) (units rest : List ℕ) (seen : List (List ℕ)) (kept : List StepFilter) (most : ℕ) (f : StepFilter) (end : ℕ) (t : Thins nodes units rest seen kept most) (is : IsFirst rest f end) where
+-- and its words are those of what is kept
+module _ (classes : List (List ℕ)) (kept : List StepFilter) (classed : classes ≡ class_words kept) where
+  with_word : (f : StepFilter) → class_words (kept ++ f ∷ []) ≡ classes ++ class_word f
+  with_word f = flat_map-append class_word kept (f ∷ []) ∙ (λ i. sym classed i ++ append-nil (class_word f) i)
+
+  same_words : (f : StepFilter) (b : Bool) → class_word f ≡ [] → class_words (cond b (kept ++ f ∷ []) kept) ≡ classes
+  same_words f true none = with_word f ∙ ap (λ l. classes ++ l) none ∙ append-nil classes
+  same_words f false none = sym classed
+
+  classed_after : (f : StepFilter) (most : ℕ) (seen : List (List ℕ)) (us : List ℕ) → class_words (cond (is_tried f most classes seen us) (kept ++ f ∷ []) kept) ≡ classes_after f classes
+  classed_after (kind.Node (on_node.Class w)) most seen us = by_test (list_any (bytes_eq w) classes)
+    where
+      by_test : (b : Bool) → class_words (cond (not b) (kept ++ kind.Node (on_node.Class w) ∷ []) kept) ≡ cond b classes (classes ++ w ∷ [])
+      by_test true = sym classed
+      by_test false = with_word (kind.Node (on_node.Class w))
+  classed_after f most seen us = same_words f (is_tried f most classes seen us) refl
+
+module _ (nodes : ℕ) (units rest : List ℕ) (classes seen : List (List ℕ)) (kept : List StepFilter) (most : ℕ) (f : StepFilter) (end : ℕ) (t : Thins nodes units rest classes seen kept most) (is : IsFirst rest f end) where
   abbrev kept_after : List StepFilter
-  kept_after = cond (is_tried f most seen (take end rest)) (kept ++ f ∷ []) kept
+  kept_after = cond (is_tried f most classes seen (take end rest)) (kept ++ f ∷ []) kept
 
   leaves : (look : ℕ → Look) (focus : Option ℕ) (ns : List ℕ) → length ns ≤ nodes → all_filtered look focus kept_after ns ≡ filtered look focus f (all_filtered look focus kept ns)
-  leaves look focus ns le = after look focus kept f (is_tried f most seen (take end rest)) ns
-      (keeps_all look focus f most seen (take end rest) (all_filtered look focus kept ns) is.alone (t.few look focus ns le) (t.passed look focus ns le))
+  leaves look focus ns le = after look focus kept f (is_tried f most classes seen (take end rest)) ns
+      (keeps_all look focus f most classes seen (take end rest) (all_filtered look focus kept ns) is.alone (t.few look focus ns le)
+      (subst (λ l. HaveAll look focus l (all_filtered look focus kept ns)) (sym t.classed) (class_kept look focus kept ns)) (t.passed look focus ns le))
 
-  thins_next : Thins nodes units (drop end rest) (seen_after f seen (take end rest)) kept_after (most_left f most)
+  thins_next : Thins nodes units (drop end rest) (classes_after f classes) (seen_after f seen (take end rest)) kept_after (most_left f most)
   thins_next = record {
     filters = is.others;
+    classed = sym (classed_after classes kept t.classed f most seen (take end rest));
     few = λ look focus ns le. subst (λ l. length l ≤ most_left f most) (sym (leaves look focus ns le)) (few_left look focus f (all_filtered look focus kept ns) most (t.few look focus ns le));
     passed = λ look focus ns le. subst (λ l. Pass look focus (seen_after f seen (take end rest)) l) (sym (leaves look focus ns le))
         (pass_after look focus f seen (take end rest) (all_filtered look focus kept ns) is.alone (t.passed look focus ns le));
@@ -211,22 +238,24 @@ module _ (nodes : ℕ) (units rest : List ℕ) (seen : List (List ℕ)) (kept : 
         ∙ t.same look focus ns le;
   }
 
-pub thins_more : (nodes : ℕ) (units rest : List ℕ) (seen : List (List ℕ)) (kept : List StepFilter) (most : ℕ) (f : StepFilter) (end : ℕ) (left : List ℕ) (now : List (List ℕ)) (b : Bool) (longer : List StepFilter) (fewer : ℕ) →
-    Thins nodes units rest seen kept most → IsFirst rest f end → left ≡ drop end rest → now ≡ seen_after f seen (take end rest) → b ≡ is_tried f most seen (take end rest) → longer ≡ cond b (kept ++ f ∷ []) kept → fewer ≡ most_left f most →
-    Thins nodes units left now longer fewer
-thins_more nodes units rest seen kept most f end left now b longer fewer t is el en eb ek ef =
-    subst (λ l. Thins nodes units l now longer fewer) (sym el)
-    (subst (λ l. Thins nodes units (drop end rest) l longer fewer) (sym en)
-    (subst (λ l. Thins nodes units (drop end rest) (seen_after f seen (take end rest)) l fewer) (sym (ek ∙ ap (λ c. cond c (kept ++ f ∷ []) kept) eb))
-    (subst (λ l. Thins nodes units (drop end rest) (seen_after f seen (take end rest)) (cond (is_tried f most seen (take end rest)) (kept ++ f ∷ []) kept) l) (sym ef)
-    (thins_next nodes units rest seen kept most f end t is))))
+pub thins_more : (nodes : ℕ) (units rest : List ℕ) (classes seen : List (List ℕ)) (kept : List StepFilter) (most : ℕ) (f : StepFilter) (end : ℕ) (left : List ℕ) (more now : List (List ℕ)) (b : Bool) (longer : List StepFilter) (fewer : ℕ) →
+    Thins nodes units rest classes seen kept most → IsFirst rest f end → left ≡ drop end rest → more ≡ classes_after f classes → now ≡ seen_after f seen (take end rest) → b ≡ is_tried f most classes seen (take end rest) → longer ≡ cond b (kept ++ f ∷ []) kept → fewer ≡ most_left f most →
+    Thins nodes units left more now longer fewer
+thins_more nodes units rest classes seen kept most f end left more now b longer fewer t is el em en eb ek ef =
+    let us = take end rest in
+    subst (λ l. Thins nodes units l more now longer fewer) (sym el)
+    (subst (λ l. Thins nodes units (drop end rest) l now longer fewer) (sym em)
+    (subst (λ l. Thins nodes units (drop end rest) (classes_after f classes) l longer fewer) (sym en)
+    (subst (λ l. Thins nodes units (drop end rest) (classes_after f classes) (seen_after f seen us) l fewer) (sym (ek ∙ ap (λ c. cond c (kept ++ f ∷ []) kept) eb))
+    (subst (λ l. Thins nodes units (drop end rest) (classes_after f classes) (seen_after f seen us) (cond (is_tried f most classes seen us) (kept ++ f ∷ []) kept) l) (sym ef)
+    (thins_next nodes units rest classes seen kept most f end t is)))))
 
 -- no filter is left, or no node
-pub thins_done : (nodes : ℕ) (units rest : List ℕ) (seen : List (List ℕ)) (kept : List StepFilter) (most : ℕ) → Thins nodes units rest seen kept most → filters_of rest ≡ [] → KeepSame nodes (filters_of units) kept
-thins_done nodes units rest seen kept most t none look focus ns le = ap (λ fs. all_filtered look focus fs (all_filtered look focus kept ns)) (sym none) ∙ t.same look focus ns le
+pub thins_done : (nodes : ℕ) (units rest : List ℕ) (classes seen : List (List ℕ)) (kept : List StepFilter) (most : ℕ) → Thins nodes units rest classes seen kept most → filters_of rest ≡ [] → KeepSame nodes (filters_of units) kept
+thins_done nodes units rest classes seen kept most t none look focus ns le = ap (λ fs. all_filtered look focus fs (all_filtered look focus kept ns)) (sym none) ∙ t.same look focus ns le
 
-pub thins_out : (nodes : ℕ) (units rest : List ℕ) (seen : List (List ℕ)) (kept : List StepFilter) (most : ℕ) → Thins nodes units rest seen kept most → most ≡ 0 → KeepSame nodes (filters_of units) kept
-thins_out nodes units rest seen kept most t e look focus ns le =
+pub thins_out : (nodes : ℕ) (units rest : List ℕ) (classes seen : List (List ℕ)) (kept : List StepFilter) (most : ℕ) → Thins nodes units rest classes seen kept most → most ≡ 0 → KeepSame nodes (filters_of units) kept
+thins_out nodes units rest classes seen kept most t e look focus ns le =
     sym (nothing_left look focus (filters_of rest) (all_filtered look focus kept ns) (subst (λ m. length (all_filtered look focus kept ns) ≤ m) e (t.few look focus ns le)))
     ∙ t.same look focus ns le
 

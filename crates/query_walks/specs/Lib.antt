@@ -1,3 +1,4 @@
+pub mod Classes
 pub mod Finds
 pub mod FirstFailed
 pub mod Nodes

@@ -2,6 +2,7 @@
 use Rattle.std.specs.Prelude.{◌≡◌, ℕ, ◌≤◌, ◌-◌, ◌/◌, Bool, true, not, List, [], ◌∷◌, ◌++◌, length, min, nat_lt, if◌then◌else◌, Option}
 use Rattle.std.specs.List.{list_any}
 use Rattle.std.specs.Str.{bytes_eq}
+use Rattle.query_grammar.specs.declared.query.Filter.TheVariants as on_node
 use Rattle.query_grammar.specs.declared.query.ListFilter.TheVariants as on_list
 use Rattle.query_grammar.specs.declared.query.StepFilter.{StepFilter}
 use Rattle.query_grammar.specs.declared.query.StepFilter.TheVariants as kind
@@ -20,15 +21,22 @@ most_left (kind.List on_list.Rest) most = most - 1
 most_left (kind.List on_list.Even) most = most - most / 2
 most_left (kind.List on_list.Odd) most = most / 2
 
--- whether a filter is to be tried: one on nodes if the units that spell it are new, and one that keeps the first node if there may be others
-abbrev pub is_tried : StepFilter → ℕ → List (List ℕ) → List ℕ → Bool
-is_tried (kind.Node f) most seen us = not (list_any (bytes_eq us) seen)
-is_tried (kind.List on_list.First) most seen us = nat_lt 1 most
-is_tried (kind.List on_list.Rest) most seen us = true
-is_tried (kind.List on_list.Even) most seen us = nat_lt 1 most
-is_tried (kind.List on_list.Odd) most seen us = true
+-- whether a filter is to be tried: one on a class if the word is new, another one on nodes if the units that spell it are, and one that keeps the first node if there may be others
+abbrev pub is_tried : StepFilter → ℕ → List (List ℕ) → List (List ℕ) → List ℕ → Bool
+is_tried (kind.Node (on_node.Class w)) most classes seen us = not (list_any (bytes_eq w) classes)
+is_tried (kind.Node f) most classes seen us = not (list_any (bytes_eq us) seen)
+is_tried (kind.List on_list.First) most classes seen us = nat_lt 1 most
+is_tried (kind.List on_list.Rest) most classes seen us = true
+is_tried (kind.List on_list.Even) most classes seen us = nat_lt 1 most
+is_tried (kind.List on_list.Odd) most classes seen us = true
 
--- the units of the filters on nodes that were seen, with those of one more filter
+-- the words of the filters on classes that were seen, with that of one more filter
+abbrev pub classes_after : StepFilter → List (List ℕ) → List (List ℕ)
+classes_after (kind.Node (on_node.Class w)) classes = if list_any (bytes_eq w) classes then classes else classes ++ w ∷ []
+classes_after _ classes = classes
+
+-- the units of the other filters on nodes that were seen, with those of one more filter
 abbrev pub seen_after : StepFilter → List (List ℕ) → List ℕ → List (List ℕ)
+seen_after (kind.Node (on_node.Class w)) seen us = seen
 seen_after (kind.Node f) seen us = if list_any (bytes_eq us) seen then seen else seen ++ us ∷ []
 seen_after (kind.List f) seen us = seen

@@ -1,116 +1,139 @@
 //! Many filters on a list of nodes: which of them keep a node out. The class of a node is read once.
-ghost use Rattle.std.specs.Prelude.{◌≡◌, ℕ, List, ◌<◌, ◌≤◌, ◌+◌, ◌||◌, length, true, false, get_or, set, IfOk, OnOk};
-ghost use Rattle.std.specs.List.{list_any};
+ghost use Rattle.std.specs.Prelude.{◌≡◌, ◌<◌, ◌≤◌, ◌+◌, ◌||◌, ℕ, length, take, drop, map, true, false, not, get_or, set, IfOk, OnOk};
+ghost use Rattle.std.specs.List.{filter, list_any, position_or_len};
 ghost use Rattle.std.specs.Str.{bytes_eq};
 ghost use Rattle.page_tree.specs.Pages.{nodes};
 ghost use Rattle.query_grammar.specs.Filters.{words, has_class};
 ghost use Rattle.query_grammar.specs.Finds.{has_number};
-ghost use Rattle.query_walks.specs.Nodes.{look, passes};
+ghost use Rattle.query_walks.specs.Classes.{class_word, class_words};
+ghost use Rattle.query_walks.specs.Nodes.{look};
 ghost use Rattle.query_walks.specs.FirstFailed.{fails, failed_at, is_on_list};
 ghost use Rattle.query_walks.specs.Walks.{AreNodes};
 
 use crate::nodes::{test, units_behind, word_end};
+use crate::once::TriedFilters;
 use crate::word::{Word, Words};
 use code_units::Memory;
-use indexmap::IndexSet;
-use keyed_names::Keys;
 use page_tree::{NodeId, Page};
 use query_grammar::{Filter, StepFilter};
 use std::alloc::Global;
 
-// The words between spaces, to be looked up.
-fn word_set(alloc: Global, keys: Keys, units: &[u16]) -> Result<Words<'_>, Memory>
-    ensures { IfOk result (λ set. (w : List ℕ)
-        → list_any (bytes_eq w) set.keys ≡ list_any (bytes_eq w) (words units.now)) }
+// Marks a place, and tells how many are left without a mark.
+fn mark(found: &mut Vec<bool>, place: usize, left: usize) -> usize
+    requires inside { place < length found.old.items }
+    requires left { left ≡ length (filter not found.old.items) }
+    ensures marked { found.new.items ≡ set found.old.items place true }
+    ensures left { result ≡ length (filter not found.new.items) }
 {
-    let mut set = IndexSet::with_hasher(alloc, keys);
+    if found[place] {
+        return left;
+    }
+    found[place] = true;
+    left - 1
+}
+
+// Marks the place of a word, if it is wanted, and tells how many are left without a mark.
+fn mark_word<'a>(wanted: &Words<'a>, word: &'a [u16], found: &mut Vec<bool>, left: usize) -> usize
+    requires long { length found.old.items ≡ length wanted.now.keys }
+    requires left { left ≡ length (filter not found.old.items) }
+    ensures marked { found.new.items
+        ≡ set found.old.items (position_or_len (bytes_eq word.now) wanted.now.keys) true }
+    ensures left { result ≡ length (filter not found.new.items) }
+{
+    match wanted.get_index_of(&Word::new(word)) {
+        Some(place) => mark(found, place, left),
+        None => left,
+    }
+}
+
+// Of each wanted word whether it stands between spaces.
+fn found_words<'a>(alloc: Global, wanted: &Words<'a>, units: &'a [u16]) -> Result<Vec<bool>, Memory>
+    ensures { IfOk result (λ found. found.items
+        ≡ map (λ word. list_any (bytes_eq word) (words units.now)) wanted.now.keys) }
+{
+    let mut left = wanted.len();
+    let mut found = vec![in alloc; false; left]?;
     let mut rest = units;
-    'words: loop {
+    'words: while left > 0 {
         let end = word_end(rest);
-        let word = Word::new(&rest[..end]);
-        set.insert(word)?;
+        left = mark_word(wanted, &rest[..end], &mut found, left);
         if end == rest.len() {
-            return Ok(set);
+            return Ok(found);
         }
         rest = units_behind(rest, end);
     }
+    Ok(found)
 }
 
-// The words of a node's class.
-fn class_words(alloc: Global, page: &Page, node: NodeId) -> Result<Words<'_>, Memory>
+// Of each wanted word whether it is in a node's class.
+fn found_classes<'a>(
+    alloc: Global,
+    page: &'a Page,
+    node: NodeId,
+    wanted: &Words<'a>,
+) -> Result<Vec<bool>, Memory>
     requires { node < length (nodes page.now) }
-    ensures { IfOk result (λ set. (w : List ℕ)
-        → list_any (bytes_eq w) set.keys ≡ has_class (look (nodes page.now) node) w) }
+    ensures { IfOk result (λ found. found.items
+        ≡ map (has_class (look (nodes page.now) node)) wanted.now.keys) }
 {
     match page.attr_of_word(node, b"class") {
-        Some(classes) => word_set(alloc, page.keys(), classes.units()),
-        None => Ok(IndexSet::with_hasher(alloc, page.keys())),
+        Some(classes) => found_words(alloc, wanted, classes.units()),
+        None => Ok(vec![in alloc; false; wanted.len()]?),
     }
 }
 
-// Whether a word is in a set.
-fn is_among<'a>(set: &Words<'a>, word: &'a [u16]) -> bool
-    ensures { result ≡ list_any (bytes_eq word.now) set.now.keys }
-{
-    set.contains(&Word::new(word))
-}
-
-// Whether a filter keeps a node with these words in its class.
-fn passes<'a>(
+// Whether a node fails a filter of a step. The first mark tells whether it has the class that the
+// filter asks for, if it asks for one.
+fn fails(
     page: &Page,
     focus: Option<NodeId>,
     node: NodeId,
-    classes: &Words<'a>,
-    by: &'a Filter<'a>,
+    found: &[bool],
+    filter: &StepFilter<'_>,
 ) -> bool
     requires node { node < length (nodes page.now) }
-    requires classes { (w : List ℕ)
-        → list_any (bytes_eq w) classes.now.keys ≡ has_class (look (nodes page.now) node) w }
-    ensures { result ≡ passes (nodes page.now) focus by.now node }
-{
-    match by {
-        Filter::Class(word) => is_among(classes, word.units()),
-        _ => test(page, focus, node, by),
-    }
-}
-
-// Whether a node with these words in its class fails a filter of a step.
-fn fails<'a>(
-    page: &Page,
-    focus: Option<NodeId>,
-    node: NodeId,
-    classes: &Words<'a>,
-    filter: &'a StepFilter<'a>,
-) -> bool
-    requires node { node < length (nodes page.now) }
-    requires classes { (w : List ℕ)
-        → list_any (bytes_eq w) classes.now.keys ≡ has_class (look (nodes page.now) node) w }
+    requires found { take (length (class_word filter.now)) found.now
+        ≡ map (has_class (look (nodes page.now) node)) (class_word filter.now) }
     ensures { result ≡ fails (nodes page.now) focus node filter.now }
 {
     match filter {
-        StepFilter::Node(by) => !passes(page, focus, node, classes, by),
+        StepFilter::Node(Filter::Class(_)) => !found[0],
+        StepFilter::Node(by) => !test(page, focus, node, by),
         StepFilter::List(_) => false,
     }
 }
 
-// The place of the first filter that a node with these words in its class fails, or their number.
-fn failed_at<'a>(
+// The marks behind that of a filter.
+fn behind_filter<'a>(found: &'a [bool], filter: &StepFilter<'_>) -> &'a [bool]
+    requires { length (class_word filter.now) ≤ length found.now }
+    ensures { result.now ≡ drop (length (class_word filter.now)) found.now }
+{
+    match filter {
+        StepFilter::Node(Filter::Class(_)) => &found[1..],
+        _ => found,
+    }
+}
+
+// The place of the first filter that a node fails, or their number. The marks tell of each filter on
+// a class whether the node has it.
+fn failed_at(
     page: &Page,
     focus: Option<NodeId>,
     node: NodeId,
-    classes: &Words<'a>,
-    filters: &'a [StepFilter<'a>],
+    found: &[bool],
+    filters: &[StepFilter<'_>],
 ) -> usize
     requires node { node < length (nodes page.now) }
-    requires classes { (w : List ℕ)
-        → list_any (bytes_eq w) classes.now.keys ≡ has_class (look (nodes page.now) node) w }
+    requires found { found.now ≡ map (has_class (look (nodes page.now) node)) (class_words filters.now) }
     ensures place { result ≡ failed_at (nodes page.now) focus filters.now node }
     ensures inside { result ≤ length filters.now }
 {
+    let mut left = found;
     'each: for (i, filter) in filters.iter().enumerate() {
-        if fails(page, focus, node, classes, filter) {
+        if fails(page, focus, node, left, filter) {
             return i;
         }
+        left = behind_filter(left, filter);
     }
     filters.len()
 }
@@ -121,7 +144,7 @@ fn mark_failed<'a>(
     page: &'a Page,
     focus: Option<NodeId>,
     node: NodeId,
-    filters: &'a [StepFilter<'a>],
+    filters: &'a TriedFilters<'a>,
     failed: &mut Vec<bool>,
 ) -> Result<(), Memory>
     requires node { node < length (nodes page.now) }
@@ -129,8 +152,8 @@ fn mark_failed<'a>(
     ensures { OnOk result (failed.new.items
         ≡ set failed.old.items (failed_at (nodes page.now) focus filters.now node) true) }
 {
-    let classes = class_words(alloc, page, node)?;
-    failed[failed_at(page, focus, node, &classes, filters)] = true;
+    let found = found_classes(alloc, page, node, filters.classes())?;
+    failed[failed_at(page, focus, node, &found, filters.filters())] = true;
     Ok(())
 }
 
@@ -140,7 +163,7 @@ pub fn mark_all_failed(
     alloc: Global,
     page: &Page,
     focus: Option<NodeId>,
-    filters: &[StepFilter<'_>],
+    filters: &TriedFilters<'_>,
     list: &[NodeId],
 ) -> Result<Vec<bool>, Memory>
     requires { AreNodes page.now list.now }
@@ -148,7 +171,7 @@ pub fn mark_all_failed(
     ensures marked { IfOk result (λ failed. (n : ℕ) → has_number list.now n ≡ true
         → get_or failed.items (failed_at (nodes page.now) focus filters.now n) false ≡ true) }
 {
-    let mut failed = vec![in alloc; false; filters.len() + 1]?;
+    let mut failed = vec![in alloc; false; filters.filters().len() + 1]?;
     'each: for node in list {
         mark_failed(alloc, &*page, focus, *node, &*filters, &mut failed)?;
     }

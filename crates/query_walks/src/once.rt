@@ -4,15 +4,53 @@ ghost use Rattle.std.specs.Prelude.{◌≡◌, ◌≤◌, [], ◌∷◌, ◌++�
 ghost use Rattle.query_grammar.specs.declared.query.ListFilter.TheVariants as on_list;
 ghost use Rattle.query_grammar.specs.declared.query.StepFilter.TheVariants as kind;
 ghost use Rattle.query_grammar.specs.Spelled.{filters_of, AreFilters, IsFirst};
-ghost use Rattle.query_walks.specs.Thinned.{KeepSame, most_left, is_tried, seen_after};
+ghost use Rattle.query_walks.specs.Classes.{class_words};
+ghost use Rattle.query_walks.specs.Thinned.{KeepSame, most_left, is_tried, classes_after, seen_after};
 
 use crate::word::{Word, Words};
 use code_units::{Memory, spells};
 use indexmap::IndexSet;
 use keyed_names::Keys;
-use query_grammar::{ListFilter, StepFilter};
+use query_grammar::{Filter, ListFilter, StepFilter};
 use query_text::first_filter;
 use std::alloc::Global;
+use std::marker::Model;
+
+/// Filters to be tried one after the other. The words of those on classes are a set too, in which the
+/// words of a node's class are looked up.
+#[derive(Drop)]
+pub struct TriedFilters<'a> {
+    filters: Vec<StepFilter<'a>>,
+    classes: Words<'a>,
+}
+
+impl<'a> Model for TriedFilters<'a> {
+    ghost use Rattle.std.specs.Prelude.{◌≡◌, List};
+    ghost use Rattle.query_grammar.specs.declared.query.StepFilter.{StepFilter};
+    ghost use Rattle.query_walks.specs.Classes.{class_words};
+
+    ghost Value = { List StepFilter };
+
+    ghost view = { λ t. t.filters.items };
+
+    ghost invariant = { λ t. t.classes.keys ≡ class_words t.filters.items };
+}
+
+impl<'a> TriedFilters<'a> {
+    /// The filters.
+    pub fn filters(&self) -> &[StepFilter<'a>]
+        ensures { result.now ≡ self.now }
+    {
+        &self.filters
+    }
+
+    // The words of those on classes, in order.
+    pub(crate) fn classes(&self) -> &Words<'a>
+        ensures { result.now.keys ≡ class_words self.now }
+    {
+        &self.classes
+    }
+}
 
 // The length of `:first`.
 const FIRST: usize = 6;
@@ -67,15 +105,19 @@ fn most_left(filter: &StepFilter<'_>, most: usize) -> usize
 
 // Whether a filter is to be tried, where at most so many nodes are left.
 fn is_tried<'a>(
+    classes: &mut Words<'a>,
     seen: &mut Words<'a>,
     units: &'a [u16],
     filter: &StepFilter<'a>,
     most: usize,
 ) -> Result<bool, Memory>
-    ensures tried { IfOk result (λ tried. tried ≡ is_tried filter.now most seen.old.keys units.now) }
+    ensures tried { IfOk result (λ tried.
+        tried ≡ is_tried filter.now most classes.old.keys seen.old.keys units.now) }
+    ensures classes { OnOk result (classes.new.keys ≡ classes_after filter.now classes.old.keys) }
     ensures seen { OnOk result (seen.new.keys ≡ seen_after filter.now seen.old.keys units.now) }
 {
     match filter {
+        StepFilter::Node(Filter::Class(word)) => Ok(classes.insert(Word::new(word.units()))?),
         StepFilter::Node(_) => Ok(seen.insert(Word::new(units))?),
         StepFilter::List(ListFilter::First) => Ok(most > 1),
         StepFilter::List(ListFilter::Rest) => Ok(true),
@@ -105,22 +147,29 @@ pub fn each_once(
     keys: Keys,
     units: &[u16],
     nodes: usize,
-) -> Result<Vec<StepFilter<'_>>, Memory>
+) -> Result<TriedFilters<'_>, Memory>
     requires { AreFilters units.now }
-    ensures { IfOk result (λ filters. KeepSame nodes (filters_of units.now) filters.items) }
+    ensures { IfOk result (λ filters. KeepSame nodes (filters_of units.now) filters) }
 {
+    let mut classes = IndexSet::with_hasher(alloc, keys);
     let mut seen = IndexSet::with_hasher(alloc, keys);
     let mut kept = Vec::new(alloc);
     let mut most = nodes;
     let mut rest = units;
     'filters: while let Some((filter, end)) = next_filter(rest) {
         if most == 0 {
-            return Ok(kept);
+            return Ok(TriedFilters {
+                filters: kept,
+                classes,
+            });
         }
-        let tried = is_tried(&mut seen, front(rest, end), &filter, most)?;
+        let tried = is_tried(&mut classes, &mut seen, front(rest, end), &filter, most)?;
         most = most_left(&filter, most);
         keep_one(filter, tried, &mut kept)?;
         rest = behind(rest, end);
     }
-    Ok(kept)
+    Ok(TriedFilters {
+        filters: kept,
+        classes,
+    })
 }
