@@ -1,7 +1,6 @@
 //! The one call of a native.
-ghost use Rattle.std.specs.Prelude.{◌≡◌, ◌<◌, List, Option, None, false, true, IfOk, OnErr};
+ghost use Rattle.std.specs.Prelude.{◌≡◌, List, Option, None, false, true, IfOk, OnErr};
 ghost use Rattle.js_tree.specs.Forest.{Forest};
-ghost use Rattle.store_cells.specs.Cells.{IsWidget, number_in};
 ghost use Rattle.widget_meaning.specs.AdsafeNatives.{adsafe_native};
 ghost use Rattle.widget_meaning.specs.Natives.{run_native};
 ghost use Rattle.widget_meaning.specs.Values.{Value as Plain};
@@ -16,10 +15,10 @@ use crate::notes::{later, log as log_value, post};
 use crate::objects::{create, is_array, keys};
 use crate::owning::{has, has_own_property};
 use crate::properties::{get, remove, set};
-use code_units::{Memory, Owner, Text};
+use code_units::{Memory, Text};
 use js_values::{Meter, NativeOut};
 use json_text::{from_json, to_json};
-use native_common::nth;
+use native_common::{WidgetId, nth};
 use object_store::{AdsafeNative, CellId, NativeId, Store, Value};
 use std::alloc::Global;
 
@@ -34,38 +33,37 @@ pub fn call(
     args: &[Value],
     store: &mut Store,
     meter: &mut Meter,
-    owner: Owner,
+    w: WidgetId,
     log: &mut Vec<Text>,
     waiting: u32,
     asked: &mut Option<(CellId, i64)>,
     posts: &mut Vec<(Text, Text)>,
 ) -> Result<NativeOut, Memory>
     requires part { is_part which ≡ true }
-    requires widget { IsWidget owner }
-    requires receiver { IsReceiver (number_in owner) store.old.cells this.now }
-    requires args { AreFine (number_in owner) store.old.cells args.now }
+    requires receiver { IsReceiver w.index store.old.cells this.now }
+    requires args { AreFine w.index store.old.cells args.now }
     requires unasked { asked.old ≡ None }
-    ensures own { AsksOwn (number_in owner) store.new.cells asked.new }
+    ensures own { AsksOwn w.index store.new.cells asked.new }
     ensures native { IfOk result (λ o.
-        RefinesNoted (number_in owner) waiting store.old store.new meter.old meter.new
+        RefinesNoted w.index waiting store.old store.new meter.old meter.new
         (record { log = log.old.items; posts = posts.old.items; asked = None })
         (record { log = log.new.items; posts = posts.new.items; asked = asked.new })
-        (run_native which (receiver (number_in owner) store.old.cells this.now)
-        (all_seen (number_in owner) store.old.cells args.now)) o) }
-    ensures memory { OnErr result ((fs : List Forest) → Kept fs (number_in owner) store.old store.new) }
+        (run_native which (receiver w.index store.old.cells this.now)
+        (all_seen w.index store.old.cells args.now)) o) }
+    ensures memory { OnErr result ((fs : List Forest) → Kept fs w.index store.old store.new) }
 {
-    let Owner::Widget(w) = owner else {
-        unreachable!()
-    };
-    run(
-        alloc, which, this, args, store, meter, w, log, waiting, asked, posts,
-    )
+    match which {
+        NativeId::Adsafe(native) => of_adsafe(
+            alloc, native, args, store, meter, w, log, waiting, asked, posts,
+        ),
+        _ => call_silent(alloc, w, which, this, args, store, meter),
+    }
 }
 
 /// The same for widget `w`, of a native that keeps no note: all but `log`, `later` and `post`.
 pub fn call_silent(
     alloc: Global,
-    w: u32,
+    w: WidgetId,
     which: NativeId,
     this: &Value,
     args: &[Value],
@@ -74,12 +72,11 @@ pub fn call_silent(
 ) -> Result<NativeOut, Memory>
     requires part { is_part which ≡ true }
     requires silent { keeps_note which ≡ false }
-    requires widget { w < 32 }
-    requires receiver { IsReceiver w store.old.cells this.now }
-    requires args { AreFine w store.old.cells args.now }
-    ensures native { IfOk result (λ o. RefinesSilent w store.old store.new meter.old meter.new
-        (run_native which (receiver w store.old.cells this.now) (all_seen w store.old.cells args.now)) o) }
-    ensures memory { OnErr result ((fs : List Forest) → Kept fs w store.old store.new) }
+    requires receiver { IsReceiver w.index store.old.cells this.now }
+    requires args { AreFine w.index store.old.cells args.now }
+    ensures native { IfOk result (λ o. RefinesSilent w.index store.old store.new meter.old meter.new
+        (run_native which (receiver w.index store.old.cells this.now) (all_seen w.index store.old.cells args.now)) o) }
+    ensures memory { OnErr result ((fs : List Forest) → Kept fs w.index store.old store.new) }
 {
     let absent = Value::Undefined;
     let first = nth(args, 0, &absent);
@@ -90,41 +87,6 @@ pub fn call_silent(
     }
 }
 
-// The same for a widget by its number.
-fn run(
-    alloc: Global,
-    which: NativeId,
-    this: &Value,
-    args: &[Value],
-    store: &mut Store,
-    meter: &mut Meter,
-    w: u32,
-    log: &mut Vec<Text>,
-    waiting: u32,
-    asked: &mut Option<(CellId, i64)>,
-    posts: &mut Vec<(Text, Text)>,
-) -> Result<NativeOut, Memory>
-    requires part { is_part which ≡ true }
-    requires widget { w < 32 }
-    requires receiver { IsReceiver w store.old.cells this.now }
-    requires args { AreFine w store.old.cells args.now }
-    requires unasked { asked.old ≡ None }
-    ensures own { AsksOwn w store.new.cells asked.new }
-    ensures native { IfOk result (λ o.
-        RefinesNoted w waiting store.old store.new meter.old meter.new
-        (record { log = log.old.items; posts = posts.old.items; asked = None })
-        (record { log = log.new.items; posts = posts.new.items; asked = asked.new })
-        (run_native which (receiver w store.old.cells this.now) (all_seen w store.old.cells args.now)) o) }
-    ensures memory { OnErr result ((fs : List Forest) → Kept fs w store.old store.new) }
-{
-    match which {
-        NativeId::Adsafe(native) => of_adsafe(
-            alloc, native, args, store, meter, w, log, waiting, asked, posts,
-        ),
-        _ => call_silent(alloc, w, which, this, args, store, meter),
-    }
-}
-
 // A native of `ADSAFE`, for every receiver.
 fn of_adsafe(
     alloc: Global,
@@ -132,22 +94,21 @@ fn of_adsafe(
     args: &[Value],
     store: &mut Store,
     meter: &mut Meter,
-    w: u32,
+    w: WidgetId,
     log: &mut Vec<Text>,
     waiting: u32,
     asked: &mut Option<(CellId, i64)>,
     posts: &mut Vec<(Text, Text)>,
 ) -> Result<NativeOut, Memory>
-    requires widget { w < 32 }
-    requires args { AreFine w store.old.cells args.now }
+    requires args { AreFine w.index store.old.cells args.now }
     requires unasked { asked.old ≡ None }
-    ensures own { AsksOwn w store.new.cells asked.new }
+    ensures own { AsksOwn w.index store.new.cells asked.new }
     ensures native { (this : Option Plain) → IfOk result (λ o.
-        RefinesNoted w waiting store.old store.new meter.old meter.new
+        RefinesNoted w.index waiting store.old store.new meter.old meter.new
         (record { log = log.old.items; posts = posts.old.items; asked = None })
         (record { log = log.new.items; posts = posts.new.items; asked = asked.new })
-        (adsafe_native which this (all_seen w store.old.cells args.now)) o) }
-    ensures memory { OnErr result ((fs : List Forest) → Kept fs w store.old store.new) }
+        (adsafe_native which this (all_seen w.index store.old.cells args.now)) o) }
+    ensures memory { OnErr result ((fs : List Forest) → Kept fs w.index store.old store.new) }
 {
     let absent = Value::Undefined;
     let first = nth(args, 0, &absent);
@@ -167,14 +128,14 @@ fn silent(
     args: &[Value],
     store: &mut Store,
     meter: &mut Meter,
-    w: u32,
+    w: WidgetId,
 ) -> Result<NativeOut, Memory>
     requires silent { keeps_note (NativeId.Adsafe which) ≡ false }
-    requires widget { w < 32 }
-    requires args { AreFine w store.old.cells args.now }
-    ensures native { (this : Option Plain) → IfOk result (λ o. RefinesSilent w store.old store.new meter.old meter.new
-        (adsafe_native which this (all_seen w store.old.cells args.now)) o) }
-    ensures memory { OnErr result ((fs : List Forest) → Kept fs w store.old store.new) }
+    requires args { AreFine w.index store.old.cells args.now }
+    ensures native { (this : Option Plain)
+        → IfOk result (λ o. RefinesSilent w.index store.old store.new meter.old meter.new
+        (adsafe_native which this (all_seen w.index store.old.cells args.now)) o) }
+    ensures memory { OnErr result ((fs : List Forest) → Kept fs w.index store.old store.new) }
 {
     let absent = Value::Undefined;
     let first = nth(args, 0, &absent);

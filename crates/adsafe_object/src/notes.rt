@@ -22,7 +22,7 @@ ghost use Rattle.adsafe_object.specs.Timers.{AsksOwn, milliseconds};
 use code_units::{Memory, Text};
 use js_image::{Callee, Fault, Paid, StopCause, callee, pay_units};
 use js_values::{Meter, NativeOut, to_text};
-use native_common::{take, text_len};
+use native_common::{WidgetId, take, text_len};
 use object_store::{CellId, Number, Store, UNIT_LIMIT, Value};
 use std::alloc::Global;
 
@@ -40,17 +40,16 @@ pub(crate) fn log(
     alloc: Global,
     store: &mut Store,
     meter: &mut Meter,
-    w: u32,
+    w: WidgetId,
     v: &Value,
     log: &mut Vec<Text>,
 ) -> Result<NativeOut, Memory>
-    requires { w < 32 }
     ensures native { IfOk result (λ o. (waiting : ℕ) (posts : List (List ℕ × List ℕ)) →
-        RefinesNoted w waiting store.old store.new meter.old meter.new
+        RefinesNoted w.index waiting store.old store.new meter.old meter.new
         (record { log = log.old.items; posts = posts; asked = None })
         (record { log = log.new.items; posts = posts; asked = None })
-        (λ d s. means.log_native (seen w store.old.cells v.now) s) o) }
-    ensures memory { OnErr result ((fs : List Forest) → Kept fs w store.old store.new) }
+        (λ d s. means.log_native (seen w.index store.old.cells v.now) s) o) }
+    ensures memory { OnErr result ((fs : List Forest) → Kept fs w.index store.old store.new) }
 {
     let Some(text) = primitive_text(alloc, v)? else {
         return Ok(NativeOut::Throw(Fault::E4));
@@ -73,15 +72,19 @@ pub(crate) fn primitive_text(alloc: Global, v: &Value) -> Result<Option<Text>, M
 }
 
 // A text costs its units and one more, and goes last into the log.
-fn append(store: &mut Store, w: u32, text: Text, log: &mut Vec<Text>) -> Result<NativeOut, Memory>
-    requires { w < 32 }
+fn append(
+    store: &mut Store,
+    w: WidgetId,
+    text: Text,
+    log: &mut Vec<Text>,
+) -> Result<NativeOut, Memory>
     ensures ends { IfOk result (λ o. (waiting : ℕ) (posts : List (List ℕ × List ℕ)) →
-        EndsNoted w waiting store.old store.new
+        EndsNoted w.index waiting store.old store.new
         (record { log = log.old.items; posts = posts; asked = None })
         (record { log = log.new.items; posts = posts; asked = None })
         (λ d s. costs.pay (costs.units_cost (length text + 1)) s
         (λ u. costs.give meaning.Undefined (means.with_entry u text))) o) }
-    ensures memory { OnErr result ((fs : List Forest) → Kept fs w store.old store.new) }
+    ensures memory { OnErr result ((fs : List Forest) → Kept fs w.index store.old store.new) }
 {
     match pay_entry(store, w, text.units().len()) {
         Paid::Stop(cause) => Ok(NativeOut::Stop(cause)),
@@ -93,35 +96,33 @@ fn append(store: &mut Store, w: u32, text: Text, log: &mut Vec<Text>) -> Result<
 }
 
 // So many units and one more are paid.
-fn pay_entry(store: &mut Store, w: u32, units: usize) -> Paid
-    requires { w < 32 }
+fn pay_entry(store: &mut Store, w: WidgetId, units: usize) -> Paid
     ensures plan { (fs : List Forest) (r : Rest) (k : State → Plan)
-        → costs.pay (costs.units_cost (units + 1)) (image fs r w store.old) k
-        ≡ paid_plan result k (image fs r w store.new) }
-    ensures kept { (fs : List Forest) → Kept fs w store.old store.new }
+        → costs.pay (costs.units_cost (units + 1)) (image fs r w.index store.old) k
+        ≡ paid_plan result k (image fs r w.index store.new) }
+    ensures kept { (fs : List Forest) → Kept fs w.index store.old store.new }
 {
     if units >= UNIT_LIMIT as usize {
         return Paid::Stop(StopCause::Units);
     }
-    pay_units(store, w, units as u32 + 1)
+    pay_units(store, w.index, units as u32 + 1)
 }
 
 /// `post(to, text)`: keeps a post, and gives whether there was room. The extra is the units of the text.
 pub(crate) fn post(
     store: &mut Store,
     meter: &mut Meter,
-    w: u32,
+    w: WidgetId,
     to: &Value,
     text: &Value,
     posts: &mut Vec<(Text, Text)>,
 ) -> Result<NativeOut, Memory>
-    requires { w < 32 }
     ensures native { IfOk result (λ o. (waiting : ℕ) (log : List (List ℕ)) →
-        RefinesNoted w waiting store.old store.new meter.old meter.new
+        RefinesNoted w.index waiting store.old store.new meter.old meter.new
         (record { log = log; posts = posts.old.items; asked = None })
         (record { log = log; posts = posts.new.items; asked = None })
-        (λ d s. means.post (seen w store.old.cells to.now) (seen w store.old.cells text.now) s) o) }
-    ensures memory { OnErr result ((fs : List Forest) → Kept fs w store.old store.new) }
+        (λ d s. means.post (seen w.index store.old.cells to.now) (seen w.index store.old.cells text.now) s) o) }
+    ensures memory { OnErr result ((fs : List Forest) → Kept fs w.index store.old store.new) }
 {
     let Value::Text(to) = to else {
         return Ok(NativeOut::Throw(Fault::E4));
@@ -142,18 +143,17 @@ pub(crate) fn post(
 // A post is kept where there is room, at the cost of its units and one more.
 fn keep_post(
     store: &mut Store,
-    w: u32,
+    w: WidgetId,
     to: &Text,
     text: &Text,
     posts: &mut Vec<(Text, Text)>,
 ) -> Result<NativeOut, Memory>
-    requires { w < 32 }
     ensures ends { IfOk result (λ o. (waiting : ℕ) (log : List (List ℕ)) →
-        EndsNoted w waiting store.old store.new
+        EndsNoted w.index waiting store.old store.new
         (record { log = log; posts = posts.old.items; asked = None })
         (record { log = log; posts = posts.new.items; asked = None })
         (λ d s. means.keep_post to.now text.now s) o) }
-    ensures memory { OnErr result ((fs : List Forest) → Kept fs w store.old store.new) }
+    ensures memory { OnErr result ((fs : List Forest) → Kept fs w.index store.old store.new) }
 {
     if posts.len() >= MOST_POSTS {
         return Ok(NativeOut::Value(Value::Bool(false)));
@@ -170,19 +170,19 @@ fn keep_post(
 /// `later(f, ms)`: asks for a timer of a function of the widget. `waiting` timers wait already.
 pub(crate) fn later(
     store: &Store,
-    w: u32,
+    w: WidgetId,
     func: &Value,
     ms: &Value,
     waiting: u32,
     asked: &mut Option<(CellId, i64)>,
 ) -> NativeOut
-    requires func { IsFine w store.now.cells func.now }
+    requires func { IsFine w.index store.now.cells func.now }
     requires unasked { asked.old ≡ None }
-    ensures own { AsksOwn w store.now.cells asked.new }
+    ensures own { AsksOwn w.index store.now.cells asked.new }
     ensures native { (log : List (List ℕ)) (posts : List (List ℕ × List ℕ)) →
-        EndsNoted w waiting store.now store.now
+        EndsNoted w.index waiting store.now store.now
         (record { log = log; posts = posts; asked = None }) (record { log = log; posts = posts; asked = asked.new })
-        (λ d s. means.later (seen w store.now.cells func.now) (seen w store.now.cells ms.now) s) result }
+        (λ d s. means.later (seen w.index store.now.cells func.now) (seen w.index store.now.cells ms.now) s) result }
 {
     let Some(cell) = own_function(store, func) else {
         return NativeOut::Throw(Fault::E4);

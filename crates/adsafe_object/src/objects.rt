@@ -1,11 +1,10 @@
 //! Natives on objects: whether they are Arrays, their names, and new ones on a prototype.
-ghost use Rattle.std.specs.Prelude.{◌≡◌, ◌<◌, ℕ, List, IfOk, OnErr, is_some, length};
+ghost use Rattle.std.specs.Prelude.{◌≡◌, ℕ, List, IfOk, OnErr, is_some, length};
 ghost use Rattle.js_tree.specs.Forest.{Forest};
 ghost use Rattle.store_cells.specs.Cells.{PlainCell};
 ghost use Rattle.store_cells.specs.Shape.{IsRefWithin};
 ghost use Rattle.widget_meaning.specs.OwnState.{State, array_length, kind_of};
 ghost use Rattle.widget_meaning.specs.Values.{Truth};
-ghost use Rattle.widget_meaning.specs.Values as meaning;
 ghost use Rattle.widget_meaning.specs.Costs as costs;
 ghost use Rattle.widget_meaning.specs.AdsafeNatives as means;
 ghost use Rattle.js_image.specs.Image.{seen};
@@ -22,7 +21,7 @@ use crate::texts::give_texts;
 use code_units::{Memory, Owner};
 use js_image::{Fault, Made, keys_len, make};
 use js_values::{Meter, NativeOut};
-use native_common::{is_object, take};
+use native_common::{WidgetId, is_object, take};
 use object_store::{CellId, CellKind, NewCell, Store, Value};
 use std::alloc::Global;
 
@@ -30,10 +29,10 @@ use std::alloc::Global;
 const LONGEST_CHAIN: u32 = 100;
 
 /// `isArray(v)`: whether it is an Array.
-pub(crate) fn is_array(store: &Store, w: u32, v: &Value) -> NativeOut
-    requires { IsFine w store.now.cells v.now }
-    ensures { Ends w store.now store.now
-        (λ d s. costs.give (Truth (is_some (array_length (kind_of s (seen w store.now.cells v.now))))) s) result }
+pub(crate) fn is_array(store: &Store, w: WidgetId, v: &Value) -> NativeOut
+    requires { IsFine w.index store.now.cells v.now }
+    ensures { Ends w.index store.now store.now
+        (λ d s. costs.give (Truth (is_some (array_length (kind_of s (seen w.index store.now.cells v.now))))) s) result }
 {
     lawful(store);
     NativeOut::Value(Value::Bool(is_array_in(store, v)))
@@ -62,14 +61,13 @@ fn is_array_kind(kind: CellKind) -> bool
 pub(crate) fn create(
     alloc: Global,
     store: &mut Store,
-    w: u32,
+    w: WidgetId,
     v: &Value,
 ) -> Result<NativeOut, Memory>
-    requires widget { w < 32 }
-    requires object { IsFine w store.old.cells v.now }
-    ensures ends { IfOk result (λ o. EndsConfined w store.old store.new
-        (λ d s. means.create (seen w store.old.cells v.now) s) o) }
-    ensures memory { OnErr result ((fs : List Forest) → Kept fs w store.old store.new) }
+    requires { IsFine w.index store.old.cells v.now }
+    ensures ends { IfOk result (λ o. EndsConfined w.index store.old store.new
+        (λ d s. means.create (seen w.index store.old.cells v.now) s) o) }
+    ensures memory { OnErr result ((fs : List Forest) → Kept fs w.index store.old store.new) }
 {
     lawful(store);
     let Some(base) = base_in(store, w, v) else {
@@ -78,17 +76,17 @@ pub(crate) fn create(
     if store.chain(base) >= LONGEST_CHAIN {
         return Ok(NativeOut::Throw(Fault::E12));
     }
-    Ok(given(make(alloc, store, w, NewCell::Object(base))?))
+    Ok(given(make(alloc, store, w.index, NewCell::Object(base))?))
 }
 
 // The cell of an Object or an Array of the widget.
-fn base_in(store: &Store, w: u32, v: &Value) -> Option<CellId>
+fn base_in(store: &Store, w: WidgetId, v: &Value) -> Option<CellId>
     requires { IsRefWithin (length store.now.cells) v.now }
-    ensures { result ≡ kinds.base_in w store.now.cells v.now }
+    ensures { result ≡ kinds.base_in w.index store.now.cells v.now }
 {
     match v {
         Value::Ref(cell) => {
-            if is_of(w, store.owner(*cell)) && is_base_kind(store.kind(*cell)) {
+            if is_of(w.index, store.owner(*cell)) && is_base_kind(store.kind(*cell)) {
                 Some(*cell)
             } else {
                 None
@@ -135,14 +133,13 @@ pub(crate) fn keys(
     alloc: Global,
     store: &mut Store,
     meter: &mut Meter,
-    w: u32,
+    w: WidgetId,
     object: &Value,
 ) -> Result<NativeOut, Memory>
-    requires widget { w < 32 }
-    requires object { IsFine w store.old.cells object.now }
-    ensures native { IfOk result (λ o. Refines w store.old store.new meter.old meter.new
-        (λ d s. means.keys_native (seen w store.old.cells object.now) s) o) }
-    ensures memory { OnErr result ((fs : List Forest) → Kept fs w store.old store.new) }
+    requires { IsFine w.index store.old.cells object.now }
+    ensures native { IfOk result (λ o. Refines w.index store.old store.new meter.old meter.new
+        (λ d s. means.keys_native (seen w.index store.old.cells object.now) s) o) }
+    ensures memory { OnErr result ((fs : List Forest) → Kept fs w.index store.old store.new) }
 {
     if !is_object(object) {
         return Ok(NativeOut::Throw(Fault::E4));

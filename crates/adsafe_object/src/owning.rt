@@ -16,7 +16,7 @@ use crate::notes::primitive_text;
 use code_units::{Memory, Text, permitted};
 use js_image::{Fault, has_own};
 use js_values::NativeOut;
-use native_common::{is_object, is_plain_call};
+use native_common::{WidgetId, is_object, is_plain_call};
 use object_store::{Store, Value};
 use std::alloc::Global;
 
@@ -24,13 +24,14 @@ use std::alloc::Global;
 pub(crate) fn has(
     alloc: Global,
     store: &Store,
-    w: u32,
+    w: WidgetId,
     object: &Value,
     name: &Value,
 ) -> Result<NativeOut, Memory>
-    requires { IsFine w store.now.cells object.now }
-    ensures { IfOk result (λ o. EndsConfined w store.now store.now
-        (λ d s. means.has_native (seen w store.now.cells object.now) (seen w store.now.cells name.now) s) o) }
+    requires { IsFine w.index store.now.cells object.now }
+    ensures { IfOk result (λ o. EndsConfined w.index store.now store.now
+        (λ d s. means.has_native (seen w.index store.now.cells object.now)
+        (seen w.index store.now.cells name.now) s) o) }
 {
     match name_of(alloc, object, name)? {
         Named::Refused(fault) => Ok(NativeOut::Throw(fault)),
@@ -42,13 +43,14 @@ pub(crate) fn has(
 pub(crate) fn has_own_property(
     alloc: Global,
     store: &Store,
-    w: u32,
+    w: WidgetId,
     this: &Value,
     v: &Value,
 ) -> Result<NativeOut, Memory>
-    requires { IsReceiver w store.now.cells this.now }
-    ensures { IfOk result (λ o. EndsConfined w store.now store.now
-        (λ d s. prototypes.has_own_property (receiver w store.now.cells this.now) (seen w store.now.cells v.now) s) o) }
+    requires { IsReceiver w.index store.now.cells this.now }
+    ensures { IfOk result (λ o. EndsConfined w.index store.now store.now
+        (λ d s. prototypes.has_own_property (receiver w.index store.now.cells this.now)
+        (seen w.index store.now.cells v.now) s) o) }
 {
     if is_plain_call(this) {
         return Ok(NativeOut::Throw(Fault::E3));

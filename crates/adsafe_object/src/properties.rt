@@ -1,5 +1,5 @@
 //! Natives that read and write properties.
-ghost use Rattle.std.specs.Prelude.{◌≡◌, ◌<◌, ℕ, List, IfOk, OnErr};
+ghost use Rattle.std.specs.Prelude.{◌≡◌, ℕ, List, IfOk, OnErr};
 ghost use Rattle.js_tree.specs.Forest.{Forest};
 ghost use Rattle.widget_meaning.specs.OwnState.{State};
 ghost use Rattle.widget_meaning.specs.Values as meaning;
@@ -18,6 +18,7 @@ use crate::names::{Named, name_of};
 use code_units::Memory;
 use js_image::{self, Removed, Written};
 use js_values::NativeOut;
+use native_common::WidgetId;
 use object_store::{Store, Value};
 use std::alloc::Global;
 
@@ -25,13 +26,14 @@ use std::alloc::Global;
 pub(crate) fn get(
     alloc: Global,
     store: &Store,
-    w: u32,
+    w: WidgetId,
     object: &Value,
     name: &Value,
 ) -> Result<NativeOut, Memory>
-    requires { IsFine w store.now.cells object.now }
-    ensures { IfOk result (λ o. EndsConfined w store.now store.now
-        (λ d s. means.get_native (seen w store.now.cells object.now) (seen w store.now.cells name.now) s) o) }
+    requires { IsFine w.index store.now.cells object.now }
+    ensures { IfOk result (λ o. EndsConfined w.index store.now store.now
+        (λ d s. means.get_native (seen w.index store.now.cells object.now)
+        (seen w.index store.now.cells name.now) s) o) }
 {
     match name_of(alloc, object, name)? {
         Named::Refused(fault) => Ok(NativeOut::Throw(fault)),
@@ -43,24 +45,23 @@ pub(crate) fn get(
 pub(crate) fn set(
     alloc: Global,
     store: &mut Store,
-    w: u32,
+    w: WidgetId,
     object: &Value,
     name: &Value,
     value: &Value,
 ) -> Result<NativeOut, Memory>
-    requires widget { w < 32 }
-    requires object { IsFine w store.old.cells object.now }
-    requires value { IsFine w store.old.cells value.now }
-    ensures ends { IfOk result (λ o. Ends w store.old store.new
-        (λ d s. means.set_native (seen w store.old.cells object.now) (seen w store.old.cells name.now)
-        (seen w store.old.cells value.now) s) o) }
-    ensures memory { OnErr result ((fs : List Forest) → Kept fs w store.old store.new) }
+    requires object { IsFine w.index store.old.cells object.now }
+    requires value { IsFine w.index store.old.cells value.now }
+    ensures ends { IfOk result (λ o. Ends w.index store.old store.new
+        (λ d s. means.set_native (seen w.index store.old.cells object.now) (seen w.index store.old.cells name.now)
+        (seen w.index store.old.cells value.now) s) o) }
+    ensures memory { OnErr result ((fs : List Forest) → Kept fs w.index store.old store.new) }
 {
     match name_of(alloc, object, name)? {
         Named::Refused(fault) => Ok(NativeOut::Throw(fault)),
         Named::Name(name) => {
             let value = value.share()?;
-            Ok(written(js_image::put(store, w, object, &name, value)?))
+            Ok(written(js_image::put(store, w.index, object, &name, value)?))
         }
     }
 }
@@ -84,18 +85,19 @@ fn written(done: Written) -> NativeOut
 pub(crate) fn remove(
     alloc: Global,
     store: &mut Store,
-    w: u32,
+    w: WidgetId,
     object: &Value,
     name: &Value,
 ) -> Result<NativeOut, Memory>
-    requires { IsFine w store.old.cells object.now }
-    ensures ends { IfOk result (λ o. Ends w store.old store.new
-        (λ d s. means.remove_native (seen w store.old.cells object.now) (seen w store.old.cells name.now) s) o) }
-    ensures memory { OnErr result ((fs : List Forest) → Kept fs w store.old store.new) }
+    requires { IsFine w.index store.old.cells object.now }
+    ensures ends { IfOk result (λ o. Ends w.index store.old store.new
+        (λ d s. means.remove_native (seen w.index store.old.cells object.now)
+        (seen w.index store.old.cells name.now) s) o) }
+    ensures memory { OnErr result ((fs : List Forest) → Kept fs w.index store.old store.new) }
 {
     match name_of(alloc, object, name)? {
         Named::Refused(fault) => Ok(NativeOut::Throw(fault)),
-        Named::Name(name) => Ok(removed(js_image::remove(store, w, object, &name))),
+        Named::Name(name) => Ok(removed(js_image::remove(store, w.index, object, &name))),
     }
 }
 

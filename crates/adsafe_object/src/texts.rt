@@ -11,7 +11,7 @@ ghost use Rattle.adsafe_object.specs.Names.{too_many};
 use code_units::{Memory, Text};
 use js_image::StopCause;
 use js_values::NativeOut;
-use native_common::{self, text_len};
+use native_common::{self, WidgetId, text_len};
 use object_store::{Store, UNIT_LIMIT};
 use std::alloc::Global;
 
@@ -22,12 +22,11 @@ const LONGEST: usize = 65_536;
 pub(crate) fn give_texts(
     alloc: Global,
     store: &mut Store,
-    w: u32,
+    w: WidgetId,
     texts: Vec<Text>,
 ) -> Result<NativeOut, Memory>
-    requires { w < 32 }
-    ensures ends { IfOk result (λ o. Ends w store.old store.new (λ d s. forms.give_texts texts.items s) o) }
-    ensures memory { OnErr result ((fs : List Forest) → Kept fs w store.old store.new) }
+    ensures ends { IfOk result (λ o. Ends w.index store.old store.new (λ d s. forms.give_texts texts.items s) o) }
+    ensures memory { OnErr result ((fs : List Forest) → Kept fs w.index store.old store.new) }
 {
     match units_in(&texts) {
         Some(units) => native_common::give_texts(alloc, store, w, texts, units),

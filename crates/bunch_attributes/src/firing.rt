@@ -1,5 +1,5 @@
 //! Dispatches to the nodes of a Bunch.
-ghost use Rattle.std.specs.Prelude.{◌<◌, [], ◌∷◌, Bool, Option, IfOk, map};
+ghost use Rattle.std.specs.Prelude.{[], ◌∷◌, Bool, Option, IfOk, map};
 ghost use Rattle.widget_meaning.specs.BunchWrites as means;
 ghost use Rattle.permitted_table.specs.declared.native.WriteNative.TheVariants as names;
 ghost use Rattle.js_image.specs.Held.{IsHeld};
@@ -13,7 +13,7 @@ use code_units::Memory;
 use event_loop::Loop;
 use js_image::Fault;
 use js_values::{Meter, NativeOut, Plan};
-use native_common::{is_object, read_text, take};
+use native_common::{WidgetId, is_object, read_text, take};
 use object_store::{CellId, Store, Value};
 use page_tree::{NodeId, Page};
 use plain_tree::is_event_type;
@@ -27,18 +27,19 @@ pub fn fire(
     this: CellId,
     store: &Store,
     meter: &mut Meter,
-    w: u32,
+    w: WidgetId,
     page: &Page,
     around: &Loop,
 ) -> Result<NativeOut, Memory>
-    requires nodes { AreNodes page.now w list.now }
-    requires held { IsHeld w store.now.cells this }
-    requires sound { IsSound w store.now page.now around.now }
+    requires nodes { AreNodes page.now w.index list.now }
+    requires held { IsHeld w.index store.now.cells this }
+    requires sound { IsSound w.index store.now page.now around.now }
     ensures { (b : Option Bool) → IfOk result (λ o.
-        RefinesAt w (beside store.now page.now around.now b) (beside store.now page.now around.now b) meter.old meter.new
-        (λ d s. means.write_method names.Fire (map (number page.now w) list.now)
-        (seen w store.now.cells (Value.Ref this))
-        (seen w store.now.cells kind.now ∷ []) d s) o) }
+        RefinesAt w.index (beside store.now page.now around.now b)
+        (beside store.now page.now around.now b) meter.old meter.new
+        (λ d s. means.write_method names.Fire (map (number page.now w.index) list.now)
+        (seen w.index store.now.cells (Value.Ref this))
+        (seen w.index store.now.cells kind.now ∷ []) d s) o) }
 {
     if is_object(kind) {
         return Ok(NativeOut::Throw(Fault::E4));

@@ -1,5 +1,5 @@
 //! The focus.
-ghost use Rattle.std.specs.Prelude.{◌≡◌, ◌<◌, ℕ, [], Bool, Option, true, map};
+ghost use Rattle.std.specs.Prelude.{◌≡◌, ℕ, [], Bool, Option, true, map};
 ghost use Rattle.query_grammar.specs.Finds.{has_number};
 ghost use Rattle.store_cells.specs.Cells.{Cells};
 ghost use Rattle.widget_meaning.specs.BunchWrites as means;
@@ -16,6 +16,7 @@ ghost use Rattle.native_image.specs.Sound.{AreNodes, HoldsOwn, IsSound, KeepsAll
 use event_loop::Loop;
 use js_image::Fault;
 use js_values::{Meter, NativeOut};
+use native_common::WidgetId;
 use native_image::{Cost, begin};
 use object_store::{CellId, Store, Value};
 use page_tree::{NodeId, Page};
@@ -26,20 +27,19 @@ pub fn focus(
     this: CellId,
     store: &mut Store,
     meter: &mut Meter,
-    w: u32,
+    w: WidgetId,
     page: &Page,
     around: &mut Loop,
 ) -> NativeOut
-    requires widget { w < 32 }
-    requires nodes { AreNodes page.now w list.now }
-    requires held { IsHeld w store.old.cells this }
-    requires sound { IsSound w store.old page.now around.old }
+    requires nodes { AreNodes page.now w.index list.now }
+    requires held { IsHeld w.index store.old.cells this }
+    requires sound { IsSound w.index store.old page.now around.old }
     ensures native { (b : Option Bool)
-        → RefinesAt w (beside store.old page.now around.old b)
+        → RefinesAt w.index (beside store.old page.now around.old b)
         (beside store.new page.now around.new b) meter.old meter.new
-        (λ d s. means.write_method names.Focus (map (number page.now w) list.now)
-        (seen w store.old.cells (Value.Ref this)) [] d s) result }
-    ensures kept { KeepsAll w store.old store.new page.now page.now around.new }
+        (λ d s. means.write_method names.Focus (map (number page.now w.index) list.now)
+        (seen w.index store.old.cells (Value.Ref this)) [] d s) result }
+    ensures kept { KeepsAll w.index store.old store.new page.now page.now around.new }
 {
     if list.len() != 1 {
         return NativeOut::Throw(Fault::E4);
@@ -66,11 +66,12 @@ pub fn has_node(list: &[NodeId], node: NodeId) -> bool
 }
 
 // Takes the focus from a node that is among these.
-fn leave(list: &[NodeId], w: u32, page: &Page, around: &mut Loop)
-    requires { (n : ℕ) → has_number list.now n ≡ true → owns page.now w n ≡ true }
-    ensures shown { (g : ℕ → ℕ) (s : State) → Shows page.now w g around.old s.own → Shows page.now w g around.new
-        (means.with_focus (means.left_focus s.own.focus (map (number page.now w) list.now)) s).own }
-    ensures holds { (s : Cells) → HoldsOwn w s page.now around.old → HoldsOwn w s page.now around.new }
+fn leave(list: &[NodeId], w: WidgetId, page: &Page, around: &mut Loop)
+    requires { (n : ℕ) → has_number list.now n ≡ true → owns page.now w.index n ≡ true }
+    ensures shown { (g : ℕ → ℕ) (s : State) → Shows page.now w.index g around.old s.own
+        → Shows page.now w.index g around.new
+        (means.with_focus (means.left_focus s.own.focus (map (number page.now w.index) list.now)) s).own }
+    ensures holds { (s : Cells) → HoldsOwn w.index s page.now around.old → HoldsOwn w.index s page.now around.new }
 {
     if let Some(node) = around.focus() {
         if has_node(list, node) {
@@ -85,20 +86,19 @@ pub fn blur(
     this: CellId,
     store: &mut Store,
     meter: &mut Meter,
-    w: u32,
+    w: WidgetId,
     page: &Page,
     around: &mut Loop,
 ) -> NativeOut
-    requires widget { w < 32 }
-    requires nodes { AreNodes page.now w list.now }
-    requires held { IsHeld w store.old.cells this }
-    requires sound { IsSound w store.old page.now around.old }
+    requires nodes { AreNodes page.now w.index list.now }
+    requires held { IsHeld w.index store.old.cells this }
+    requires sound { IsSound w.index store.old page.now around.old }
     ensures native { (b : Option Bool)
-        → RefinesAt w (beside store.old page.now around.old b)
+        → RefinesAt w.index (beside store.old page.now around.old b)
         (beside store.new page.now around.new b) meter.old meter.new
-        (λ d s. means.write_method names.Blur (map (number page.now w) list.now)
-        (seen w store.old.cells (Value.Ref this)) [] d s) result }
-    ensures kept { KeepsAll w store.old store.new page.now page.now around.new }
+        (λ d s. means.write_method names.Blur (map (number page.now w.index) list.now)
+        (seen w.index store.old.cells (Value.Ref this)) [] d s) result }
+    ensures kept { KeepsAll w.index store.old store.new page.now page.now around.new }
 {
     match begin(store, meter, w, list.len(), Cost::Nothing) {
         Ok(()) => {

@@ -8,6 +8,7 @@ ghost use Rattle.page_image.specs.Image.{forest, number, owns};
 ghost use Rattle.bunch_attributes.specs.Tests.{is_field_tag, passes};
 
 use code_units::{Text, is_word};
+use native_common::WidgetId;
 use page_image::tag;
 use page_tree::{NodeId, Page};
 
@@ -21,22 +22,24 @@ pub enum Test {
 }
 
 /// Whether a node is a text node.
-pub fn is_text_node(node: NodeId, w: u32, page: &Page) -> bool
-    requires { owns page.now w node ≡ true }
-    ensures { (s : State) → s.own.forest ≡ forest page.now w → result ≡ forms.is_text_node s (number page.now w node) }
+pub fn is_text_node(node: NodeId, w: WidgetId, page: &Page) -> bool
+    requires { owns page.now w.index node ≡ true }
+    ensures { (s : State) → s.own.forest ≡ forest page.now w.index
+        → result ≡ forms.is_text_node s (number page.now w.index node) }
 {
-    match tag(page, w, node) {
+    match tag(page, w.index, node) {
         Some(_) => false,
         None => true,
     }
 }
 
 /// Whether a node is an `input`.
-pub fn is_input(node: NodeId, w: u32, page: &Page) -> bool
-    requires { owns page.now w node ≡ true }
-    ensures { (s : State) → s.own.forest ≡ forest page.now w → result ≡ forms.is_input s (number page.now w node) }
+pub fn is_input(node: NodeId, w: WidgetId, page: &Page) -> bool
+    requires { owns page.now w.index node ≡ true }
+    ensures { (s : State) → s.own.forest ≡ forest page.now w.index
+        → result ≡ forms.is_input s (number page.now w.index node) }
 {
-    match tag(page, w, node) {
+    match tag(page, w.index, node) {
         Some(name) => is_word(name, b"input"),
         None => false,
     }
@@ -54,20 +57,22 @@ fn is_field_tag(name: &Text) -> bool
 }
 
 // Whether a node is an element that can be disabled.
-fn is_field(node: NodeId, w: u32, page: &Page) -> bool
-    requires { owns page.now w node ≡ true }
-    ensures { (s : State) → s.own.forest ≡ forest page.now w → result ≡ forms.is_field s (number page.now w node) }
+fn is_field(node: NodeId, w: WidgetId, page: &Page) -> bool
+    requires { owns page.now w.index node ≡ true }
+    ensures { (s : State) → s.own.forest ≡ forest page.now w.index
+        → result ≡ forms.is_field s (number page.now w.index node) }
 {
-    match tag(page, w, node) {
+    match tag(page, w.index, node) {
         Some(name) => is_field_tag(name),
         None => false,
     }
 }
 
 // Whether a node passes a test.
-fn passes(test: Test, node: NodeId, w: u32, page: &Page) -> bool
-    requires { owns page.now w node ≡ true }
-    ensures { (s : State) → s.own.forest ≡ forest page.now w → result ≡ passes test s (number page.now w node) }
+fn passes(test: Test, node: NodeId, w: WidgetId, page: &Page) -> bool
+    requires { owns page.now w.index node ≡ true }
+    ensures { (s : State) → s.own.forest ≡ forest page.now w.index
+        → result ≡ passes test s (number page.now w.index node) }
 {
     match test {
         Test::Element => !is_text_node(node, w, page),
@@ -77,10 +82,10 @@ fn passes(test: Test, node: NodeId, w: u32, page: &Page) -> bool
 }
 
 /// Whether each node passes a test.
-pub fn all_pass(list: &[NodeId], test: Test, w: u32, page: &Page) -> bool
-    requires { (n : ℕ) → has_number list.now n ≡ true → owns page.now w n ≡ true }
-    ensures { (s : State) → s.own.forest ≡ forest page.now w
-        → result ≡ list_all (passes test s) (map (number page.now w) list.now) }
+pub fn all_pass(list: &[NodeId], test: Test, w: WidgetId, page: &Page) -> bool
+    requires { (n : ℕ) → has_number list.now n ≡ true → owns page.now w.index n ≡ true }
+    ensures { (s : State) → s.own.forest ≡ forest page.now w.index
+        → result ≡ list_all (passes test s) (map (number page.now w.index) list.now) }
 {
     'each: for node in list {
         if !passes(test, *node, w, page) {

@@ -1,5 +1,5 @@
 //! Changes of what is kept with nodes.
-ghost use Rattle.std.specs.Prelude.{◌≡◌, ◌<◌, ℕ, Bool, Option, true, IfOk, OnErr, OnOk, map};
+ghost use Rattle.std.specs.Prelude.{◌≡◌, ℕ, Bool, Option, true, IfOk, OnErr, OnOk, map};
 ghost use Rattle.std.specs.List.{fold};
 ghost use Rattle.query_grammar.specs.Finds.{has_number};
 ghost use Rattle.store_cells.specs.Cells.{Cells, own_count};
@@ -19,6 +19,7 @@ ghost use Rattle.bunch_attributes.specs.Kept.{IsFineChange, keep_plan, meant, pl
 use code_units::{Memory, Text};
 use event_loop::Loop;
 use js_values::{Meter, NativeOut};
+use native_common::WidgetId;
 use native_image::{Cost, begin};
 use object_store::{CellId, Store, Value};
 use page_tree::{NodeId, Page};
@@ -67,16 +68,16 @@ fn change_all(
     alloc: Global,
     list: &[NodeId],
     change: &Change,
-    w: u32,
+    w: WidgetId,
     page: &Page,
     around: &mut Loop,
 ) -> Result<(), Memory>
-    requires { (n : ℕ) → has_number list.now n ≡ true → owns page.now w n ≡ true }
-    ensures shown { (g : ℕ → ℕ) (s : State) → Shows page.now w g around.old s.own → OnOk result
-        (Shows page.now w g around.new
-        (fold (change_kept (meant g change.now)) s (map (number page.now w) list.now)).own) }
-    ensures holds { (s : Cells) → IsFineChange w s.cells change.now → HoldsOwn w s page.now around.old
-        → HoldsOwn w s page.now around.new }
+    requires { (n : ℕ) → has_number list.now n ≡ true → owns page.now w.index n ≡ true }
+    ensures shown { (g : ℕ → ℕ) (s : State) → Shows page.now w.index g around.old s.own → OnOk result
+        (Shows page.now w.index g around.new
+        (fold (change_kept (meant g change.now)) s (map (number page.now w.index) list.now)).own) }
+    ensures holds { (s : Cells) → IsFineChange w.index s.cells change.now → HoldsOwn w.index s page.now around.old
+        → HoldsOwn w.index s page.now around.new }
 {
     'each: for node in list {
         change_node(alloc, around, *node, change)?;
@@ -93,21 +94,21 @@ pub(crate) fn keep(
     this: CellId,
     store: &mut Store,
     meter: &mut Meter,
-    w: u32,
+    w: WidgetId,
     page: &Page,
     around: &mut Loop,
 ) -> Result<NativeOut, Memory>
-    requires widget { w < 32 }
-    requires nodes { AreNodes page.now w list.now }
-    requires held { IsHeld w store.old.cells this }
-    requires change { IsFineChange w store.old.cells change.now }
-    requires sound { IsSound w store.old page.now around.old }
+    requires nodes { AreNodes page.now w.index list.now }
+    requires held { IsHeld w.index store.old.cells this }
+    requires change { IsFineChange w.index store.old.cells change.now }
+    requires sound { IsSound w.index store.old page.now around.old }
     ensures native { (b : Option Bool) (c : Price) → IsPrice cost c
-        → IfOk result (λ o. RefinesAt w (beside store.old page.now around.old b)
+        → IfOk result (λ o. RefinesAt w.index (beside store.old page.now around.old b)
         (beside store.new page.now around.new b) meter.old meter.new
-        (λ d s. keep_plan (meant (own_count w store.old.cells) change.now) c (map (number page.now w) list.now)
-        (seen w store.old.cells (Value.Ref this)) s) o) }
-    ensures kept { KeepsAll w store.old store.new page.now page.now around.new }
+        (λ d s. keep_plan (meant (own_count w.index store.old.cells) change.now) c
+        (map (number page.now w.index) list.now)
+        (seen w.index store.old.cells (Value.Ref this)) s) o) }
+    ensures kept { KeepsAll w.index store.old store.new page.now page.now around.new }
 {
     match begin(store, meter, w, list.len(), cost) {
         Ok(()) => {

@@ -1,5 +1,5 @@
 //! Methods that set attributes and styles.
-ghost use Rattle.std.specs.Prelude.{◌≡◌, ◌<◌, ◌&&◌, ◌||◌, ◌*◌, [], ◌∷◌, Bool, Option, None, Some, IfOk, if◌then◌else◌, length, map, nat_eq};
+ghost use Rattle.std.specs.Prelude.{◌≡◌, ◌&&◌, ◌||◌, ◌*◌, [], ◌∷◌, Bool, Option, None, Some, IfOk, if◌then◌else◌, length, map, nat_eq};
 ghost use Rattle.plain_tree.specs.Trees as plain;
 ghost use Rattle.style_text.specs.Styles.{is_listed, is_value};
 ghost use Rattle.tree_ops.specs.Labels.{with_attribute};
@@ -21,7 +21,7 @@ use crate::relabelling::{Label, Relabelling, relabel};
 use code_units::{Memory, Text};
 use js_image::{Fault, word};
 use js_values::{Meter, NativeOut, is_true};
-use native_common::{either_object, is_object, read_text};
+use native_common::{WidgetId, either_object, is_object, read_text};
 use native_image::Cost;
 use object_store::{CellId, Store, Value};
 use page_tree::{NodeId, Page};
@@ -45,19 +45,19 @@ fn set_attribute(
     this: CellId,
     store: &mut Store,
     meter: &mut Meter,
-    w: u32,
+    w: WidgetId,
     page: &mut Page,
 ) -> Result<NativeOut, Memory>
-    requires widget { w < 32 }
-    requires nodes { AreNodes page.old w list.now }
-    requires home { HasRoot page.old w }
-    requires held { IsHeld w store.old.cells this }
-    ensures native { (l : Loop) (b : Option Bool) → IsSound w store.old page.old l
-        → IfOk result (λ o. RefinesAt w (beside store.old page.old l b)
+    requires nodes { AreNodes page.old w.index list.now }
+    requires home { HasRoot page.old w.index }
+    requires held { IsHeld w.index store.old.cells this }
+    ensures native { (l : Loop) (b : Option Bool) → IsSound w.index store.old page.old l
+        → IfOk result (λ o. RefinesAt w.index (beside store.old page.old l b)
         (beside store.new page.new l b) meter.old meter.new
-        (λ d s. means.set_attribute (map (number page.old w) list.now) name.now text
-        (seen w store.old.cells (Value.Ref this)) s) o) }
-    ensures kept { (l : Loop) → IsSound w store.old page.old l → KeepsAll w store.old store.new page.old page.new l }
+        (λ d s. means.set_attribute (map (number page.old w.index) list.now) name.now text
+        (seen w.index store.old.cells (Value.Ref this)) s) o) }
+    ensures kept { (l : Loop) → IsSound w.index store.old page.old l
+        → KeepsAll w.index store.old store.new page.old page.new l }
 {
     let cost = Cost::Units(units_for(list, &text));
     let name = word(alloc, name)?;
@@ -77,19 +77,19 @@ pub fn set_class(
     this: CellId,
     store: &mut Store,
     meter: &mut Meter,
-    w: u32,
+    w: WidgetId,
     page: &mut Page,
 ) -> Result<NativeOut, Memory>
-    requires widget { w < 32 }
-    requires nodes { AreNodes page.old w list.now }
-    requires home { HasRoot page.old w }
-    requires held { IsHeld w store.old.cells this }
-    ensures native { (l : Loop) (b : Option Bool) → IsSound w store.old page.old l
-        → IfOk result (λ o. RefinesAt w (beside store.old page.old l b)
+    requires nodes { AreNodes page.old w.index list.now }
+    requires home { HasRoot page.old w.index }
+    requires held { IsHeld w.index store.old.cells this }
+    ensures native { (l : Loop) (b : Option Bool) → IsSound w.index store.old page.old l
+        → IfOk result (λ o. RefinesAt w.index (beside store.old page.old l b)
         (beside store.new page.new l b) meter.old meter.new
-        (λ d s. means.write_method names.SetClass (map (number page.old w) list.now)
-        (seen w store.old.cells (Value.Ref this)) (seen w store.old.cells value.now ∷ []) d s) o) }
-    ensures kept { (l : Loop) → IsSound w store.old page.old l → KeepsAll w store.old store.new page.old page.new l }
+        (λ d s. means.write_method names.SetClass (map (number page.old w.index) list.now)
+        (seen w.index store.old.cells (Value.Ref this)) (seen w.index store.old.cells value.now ∷ []) d s) o) }
+    ensures kept { (l : Loop) → IsSound w.index store.old page.old l
+        → KeepsAll w.index store.old store.new page.old page.new l }
 {
     if is_object(value) {
         return Ok(NativeOut::Throw(Fault::E4));
@@ -109,19 +109,19 @@ pub fn set_title(
     this: CellId,
     store: &mut Store,
     meter: &mut Meter,
-    w: u32,
+    w: WidgetId,
     page: &mut Page,
 ) -> Result<NativeOut, Memory>
-    requires widget { w < 32 }
-    requires nodes { AreNodes page.old w list.now }
-    requires home { HasRoot page.old w }
-    requires held { IsHeld w store.old.cells this }
-    ensures native { (l : Loop) (b : Option Bool) → IsSound w store.old page.old l
-        → IfOk result (λ o. RefinesAt w (beside store.old page.old l b)
+    requires nodes { AreNodes page.old w.index list.now }
+    requires home { HasRoot page.old w.index }
+    requires held { IsHeld w.index store.old.cells this }
+    ensures native { (l : Loop) (b : Option Bool) → IsSound w.index store.old page.old l
+        → IfOk result (λ o. RefinesAt w.index (beside store.old page.old l b)
         (beside store.new page.new l b) meter.old meter.new
-        (λ d s. means.write_method names.SetTitle (map (number page.old w) list.now)
-        (seen w store.old.cells (Value.Ref this)) (seen w store.old.cells value.now ∷ []) d s) o) }
-    ensures kept { (l : Loop) → IsSound w store.old page.old l → KeepsAll w store.old store.new page.old page.new l }
+        (λ d s. means.write_method names.SetTitle (map (number page.old w.index) list.now)
+        (seen w.index store.old.cells (Value.Ref this)) (seen w.index store.old.cells value.now ∷ []) d s) o) }
+    ensures kept { (l : Loop) → IsSound w.index store.old page.old l
+        → KeepsAll w.index store.old store.new page.old page.new l }
 {
     if is_object(value) {
         return Ok(NativeOut::Throw(Fault::E4));
@@ -156,19 +156,19 @@ fn set_flag(
     this: CellId,
     store: &mut Store,
     meter: &mut Meter,
-    w: u32,
+    w: WidgetId,
     page: &mut Page,
 ) -> Result<NativeOut, Memory>
-    requires widget { w < 32 }
-    requires nodes { AreNodes page.old w list.now }
-    requires home { HasRoot page.old w }
-    requires held { IsHeld w store.old.cells this }
-    ensures native { (l : Loop) (b : Option Bool) → IsSound w store.old page.old l
-        → IfOk result (λ o. RefinesAt w (beside store.old page.old l b)
+    requires nodes { AreNodes page.old w.index list.now }
+    requires home { HasRoot page.old w.index }
+    requires held { IsHeld w.index store.old.cells this }
+    ensures native { (l : Loop) (b : Option Bool) → IsSound w.index store.old page.old l
+        → IfOk result (λ o. RefinesAt w.index (beside store.old page.old l b)
         (beside store.new page.new l b) meter.old meter.new
-        (λ d s. means.set_flag (tests.passes test s) (map (number page.old w) list.now) name.now is_set
-        (seen w store.old.cells (Value.Ref this)) s) o) }
-    ensures kept { (l : Loop) → IsSound w store.old page.old l → KeepsAll w store.old store.new page.old page.new l }
+        (λ d s. means.set_flag (tests.passes test s) (map (number page.old w.index) list.now) name.now is_set
+        (seen w.index store.old.cells (Value.Ref this)) s) o) }
+    ensures kept { (l : Loop) → IsSound w.index store.old page.old l
+        → KeepsAll w.index store.old store.new page.old page.new l }
 {
     let how = Relabelling {
         test,
@@ -186,19 +186,19 @@ pub fn set_check(
     this: CellId,
     store: &mut Store,
     meter: &mut Meter,
-    w: u32,
+    w: WidgetId,
     page: &mut Page,
 ) -> Result<NativeOut, Memory>
-    requires widget { w < 32 }
-    requires nodes { AreNodes page.old w list.now }
-    requires home { HasRoot page.old w }
-    requires held { IsHeld w store.old.cells this }
-    ensures native { (l : Loop) (b : Option Bool) → IsSound w store.old page.old l
-        → IfOk result (λ o. RefinesAt w (beside store.old page.old l b)
+    requires nodes { AreNodes page.old w.index list.now }
+    requires home { HasRoot page.old w.index }
+    requires held { IsHeld w.index store.old.cells this }
+    ensures native { (l : Loop) (b : Option Bool) → IsSound w.index store.old page.old l
+        → IfOk result (λ o. RefinesAt w.index (beside store.old page.old l b)
         (beside store.new page.new l b) meter.old meter.new
-        (λ d s. means.write_method names.SetCheck (map (number page.old w) list.now)
-        (seen w store.old.cells (Value.Ref this)) (seen w store.old.cells value.now ∷ []) d s) o) }
-    ensures kept { (l : Loop) → IsSound w store.old page.old l → KeepsAll w store.old store.new page.old page.new l }
+        (λ d s. means.write_method names.SetCheck (map (number page.old w.index) list.now)
+        (seen w.index store.old.cells (Value.Ref this)) (seen w.index store.old.cells value.now ∷ []) d s) o) }
+    ensures kept { (l : Loop) → IsSound w.index store.old page.old l
+        → KeepsAll w.index store.old store.new page.old page.new l }
 {
     set_flag(
         alloc,
@@ -222,19 +222,19 @@ pub fn set_enabled(
     this: CellId,
     store: &mut Store,
     meter: &mut Meter,
-    w: u32,
+    w: WidgetId,
     page: &mut Page,
 ) -> Result<NativeOut, Memory>
-    requires widget { w < 32 }
-    requires nodes { AreNodes page.old w list.now }
-    requires home { HasRoot page.old w }
-    requires held { IsHeld w store.old.cells this }
-    ensures native { (l : Loop) (b : Option Bool) → IsSound w store.old page.old l
-        → IfOk result (λ o. RefinesAt w (beside store.old page.old l b)
+    requires nodes { AreNodes page.old w.index list.now }
+    requires home { HasRoot page.old w.index }
+    requires held { IsHeld w.index store.old.cells this }
+    ensures native { (l : Loop) (b : Option Bool) → IsSound w.index store.old page.old l
+        → IfOk result (λ o. RefinesAt w.index (beside store.old page.old l b)
         (beside store.new page.new l b) meter.old meter.new
-        (λ d s. means.write_method names.SetEnabled (map (number page.old w) list.now)
-        (seen w store.old.cells (Value.Ref this)) (seen w store.old.cells value.now ∷ []) d s) o) }
-    ensures kept { (l : Loop) → IsSound w store.old page.old l → KeepsAll w store.old store.new page.old page.new l }
+        (λ d s. means.write_method names.SetEnabled (map (number page.old w.index) list.now)
+        (seen w.index store.old.cells (Value.Ref this)) (seen w.index store.old.cells value.now ∷ []) d s) o) }
+    ensures kept { (l : Loop) → IsSound w.index store.old page.old l
+        → KeepsAll w.index store.old store.new page.old page.new l }
 {
     set_flag(
         alloc,
@@ -267,20 +267,20 @@ pub fn set_style(
     this: CellId,
     store: &mut Store,
     meter: &mut Meter,
-    w: u32,
+    w: WidgetId,
     page: &mut Page,
 ) -> Result<NativeOut, Memory>
-    requires widget { w < 32 }
-    requires nodes { AreNodes page.old w list.now }
-    requires home { HasRoot page.old w }
-    requires held { IsHeld w store.old.cells this }
-    ensures native { (l : Loop) (b : Option Bool) → IsSound w store.old page.old l
-        → IfOk result (λ o. RefinesAt w (beside store.old page.old l b)
+    requires nodes { AreNodes page.old w.index list.now }
+    requires home { HasRoot page.old w.index }
+    requires held { IsHeld w.index store.old.cells this }
+    ensures native { (l : Loop) (b : Option Bool) → IsSound w.index store.old page.old l
+        → IfOk result (λ o. RefinesAt w.index (beside store.old page.old l b)
         (beside store.new page.new l b) meter.old meter.new
-        (λ d s. means.write_method names.SetStyle (map (number page.old w) list.now)
-        (seen w store.old.cells (Value.Ref this))
-        (seen w store.old.cells property.now ∷ seen w store.old.cells value.now ∷ []) d s) o) }
-    ensures kept { (l : Loop) → IsSound w store.old page.old l → KeepsAll w store.old store.new page.old page.new l }
+        (λ d s. means.write_method names.SetStyle (map (number page.old w.index) list.now)
+        (seen w.index store.old.cells (Value.Ref this))
+        (seen w.index store.old.cells property.now ∷ seen w.index store.old.cells value.now ∷ []) d s) o) }
+    ensures kept { (l : Loop) → IsSound w.index store.old page.old l
+        → KeepsAll w.index store.old store.new page.old page.new l }
 {
     if either_object(property, value) {
         return Ok(NativeOut::Throw(Fault::E4));

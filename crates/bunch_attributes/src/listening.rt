@@ -1,5 +1,5 @@
 //! Handlers, marks and protection.
-ghost use Rattle.std.specs.Prelude.{◌≡◌, ◌<◌, [], ◌∷◌, Bool, Option, IfOk, map};
+ghost use Rattle.std.specs.Prelude.{◌≡◌, [], ◌∷◌, Bool, Option, IfOk, map};
 ghost use Rattle.widget_meaning.specs.BunchWrites as means;
 ghost use Rattle.permitted_table.specs.declared.native.WriteNative.TheVariants as names;
 ghost use Rattle.js_image.specs.Held.{IsFine, IsHeld};
@@ -16,7 +16,7 @@ use code_units::Memory;
 use event_loop::Loop;
 use js_image::Fault;
 use js_values::{Meter, NativeOut};
-use native_common::{is_object, read_text};
+use native_common::{WidgetId, is_object, read_text};
 use native_image::Cost;
 use object_store::{CellId, Store, Value};
 use page_tree::{NodeId, Page};
@@ -32,21 +32,21 @@ pub fn listen(
     this: CellId,
     store: &mut Store,
     meter: &mut Meter,
-    w: u32,
+    w: WidgetId,
     page: &Page,
     around: &mut Loop,
 ) -> Result<NativeOut, Memory>
-    requires widget { w < 32 }
-    requires nodes { AreNodes page.now w list.now }
-    requires held { IsHeld w store.old.cells this }
-    requires func { IsFine w store.old.cells func.now }
-    requires sound { IsSound w store.old page.now around.old }
+    requires nodes { AreNodes page.now w.index list.now }
+    requires held { IsHeld w.index store.old.cells this }
+    requires func { IsFine w.index store.old.cells func.now }
+    requires sound { IsSound w.index store.old page.now around.old }
     ensures native { (b : Option Bool) → IfOk result (λ o.
-        RefinesAt w (beside store.old page.now around.old b) (beside store.new page.now around.new b) meter.old meter.new
-        (λ d s. means.write_method names.On (map (number page.now w) list.now)
-        (seen w store.old.cells (Value.Ref this))
-        (seen w store.old.cells kind.now ∷ seen w store.old.cells func.now ∷ []) d s) o) }
-    ensures kept { KeepsAll w store.old store.new page.now page.now around.new }
+        RefinesAt w.index (beside store.old page.now around.old b)
+        (beside store.new page.now around.new b) meter.old meter.new
+        (λ d s. means.write_method names.On (map (number page.now w.index) list.now)
+        (seen w.index store.old.cells (Value.Ref this))
+        (seen w.index store.old.cells kind.now ∷ seen w.index store.old.cells func.now ∷ []) d s) o) }
+    ensures kept { KeepsAll w.index store.old store.new page.now page.now around.new }
 {
     if is_object(kind) {
         return Ok(NativeOut::Throw(Fault::E4));
@@ -82,19 +82,19 @@ pub fn hush(
     this: CellId,
     store: &mut Store,
     meter: &mut Meter,
-    w: u32,
+    w: WidgetId,
     page: &Page,
     around: &mut Loop,
 ) -> Result<NativeOut, Memory>
-    requires widget { w < 32 }
-    requires nodes { AreNodes page.now w list.now }
-    requires held { IsHeld w store.old.cells this }
-    requires sound { IsSound w store.old page.now around.old }
+    requires nodes { AreNodes page.now w.index list.now }
+    requires held { IsHeld w.index store.old.cells this }
+    requires sound { IsSound w.index store.old page.now around.old }
     ensures native { (b : Option Bool) → IfOk result (λ o.
-        RefinesAt w (beside store.old page.now around.old b) (beside store.new page.now around.new b) meter.old meter.new
-        (λ d s. means.write_method names.Off (map (number page.now w) list.now)
-        (seen w store.old.cells (Value.Ref this)) (seen w store.old.cells kind.now ∷ []) d s) o) }
-    ensures kept { KeepsAll w store.old store.new page.now page.now around.new }
+        RefinesAt w.index (beside store.old page.now around.old b)
+        (beside store.new page.now around.new b) meter.old meter.new
+        (λ d s. means.write_method names.Off (map (number page.now w.index) list.now)
+        (seen w.index store.old.cells (Value.Ref this)) (seen w.index store.old.cells kind.now ∷ []) d s) o) }
+    ensures kept { KeepsAll w.index store.old store.new page.now page.now around.new }
 {
     if is_undefined(kind) {
         let change = Change::Hush { kind: None };
@@ -141,19 +141,19 @@ pub fn set_mark(
     this: CellId,
     store: &mut Store,
     meter: &mut Meter,
-    w: u32,
+    w: WidgetId,
     page: &Page,
     around: &mut Loop,
 ) -> Result<NativeOut, Memory>
-    requires widget { w < 32 }
-    requires nodes { AreNodes page.now w list.now }
-    requires held { IsHeld w store.old.cells this }
-    requires sound { IsSound w store.old page.now around.old }
+    requires nodes { AreNodes page.now w.index list.now }
+    requires held { IsHeld w.index store.old.cells this }
+    requires sound { IsSound w.index store.old page.now around.old }
     ensures native { (b : Option Bool) → IfOk result (λ o.
-        RefinesAt w (beside store.old page.now around.old b) (beside store.new page.now around.new b) meter.old meter.new
-        (λ d s. means.write_method names.SetMark (map (number page.now w) list.now)
-        (seen w store.old.cells (Value.Ref this)) (seen w store.old.cells value.now ∷ []) d s) o) }
-    ensures kept { KeepsAll w store.old store.new page.now page.now around.new }
+        RefinesAt w.index (beside store.old page.now around.old b)
+        (beside store.new page.now around.new b) meter.old meter.new
+        (λ d s. means.write_method names.SetMark (map (number page.now w.index) list.now)
+        (seen w.index store.old.cells (Value.Ref this)) (seen w.index store.old.cells value.now ∷ []) d s) o) }
+    ensures kept { KeepsAll w.index store.old store.new page.now page.now around.new }
 {
     if is_object(value) {
         return Ok(NativeOut::Throw(Fault::E4));
@@ -181,19 +181,19 @@ pub fn protect(
     this: CellId,
     store: &mut Store,
     meter: &mut Meter,
-    w: u32,
+    w: WidgetId,
     page: &Page,
     around: &mut Loop,
 ) -> Result<NativeOut, Memory>
-    requires widget { w < 32 }
-    requires nodes { AreNodes page.now w list.now }
-    requires held { IsHeld w store.old.cells this }
-    requires sound { IsSound w store.old page.now around.old }
+    requires nodes { AreNodes page.now w.index list.now }
+    requires held { IsHeld w.index store.old.cells this }
+    requires sound { IsSound w.index store.old page.now around.old }
     ensures native { (b : Option Bool) → IfOk result (λ o.
-        RefinesAt w (beside store.old page.now around.old b) (beside store.new page.now around.new b) meter.old meter.new
-        (λ d s. means.write_method names.Protect (map (number page.now w) list.now)
-        (seen w store.old.cells (Value.Ref this)) ([]) d s) o) }
-    ensures kept { KeepsAll w store.old store.new page.now page.now around.new }
+        RefinesAt w.index (beside store.old page.now around.old b)
+        (beside store.new page.now around.new b) meter.old meter.new
+        (λ d s. means.write_method names.Protect (map (number page.now w.index) list.now)
+        (seen w.index store.old.cells (Value.Ref this)) ([]) d s) o) }
+    ensures kept { KeepsAll w.index store.old store.new page.now page.now around.new }
 {
     keep(
         alloc,

@@ -1,5 +1,5 @@
 //! Changes of what nodes are.
-ghost use Rattle.std.specs.Prelude.{◌≡◌, ◌<◌, ℕ, Bool, Option, true, false, IfOk, OnOk, map};
+ghost use Rattle.std.specs.Prelude.{◌≡◌, ℕ, Bool, Option, true, false, IfOk, OnOk, map};
 ghost use Rattle.std.specs.List.{fold};
 ghost use Rattle.query_grammar.specs.Finds.{has_number};
 ghost use Rattle.event_loop.specs.declared.around.Loop.{Loop};
@@ -19,6 +19,7 @@ use crate::styles::restyle;
 use code_units::{Memory, Text};
 use js_image::Fault;
 use js_values::{Meter, NativeOut};
+use native_common::WidgetId;
 use native_image::{Cost, begin};
 use object_store::{CellId, Store, Value};
 use page_image::set_attr;
@@ -47,38 +48,38 @@ fn change_node(
     alloc: Global,
     node: NodeId,
     change: &Label,
-    w: u32,
+    w: WidgetId,
     page: &mut Page,
 ) -> Result<(), Memory>
-    requires home { HasRoot page.old w }
-    requires own { owns page.old w node ≡ true }
-    requires element { is_text_at (forest page.old w) (number page.old w node) ≡ false }
-    ensures image { OnOk result (forest page.new w
-        ≡ relabel_in (meant change.now) (forest page.old w) (number page.old w node)) }
+    requires home { HasRoot page.old w.index }
+    requires own { owns page.old w.index node ≡ true }
+    requires element { is_text_at (forest page.old w.index) (number page.old w.index node) ≡ false }
+    ensures image { OnOk result (forest page.new w.index
+        ≡ relabel_in (meant change.now) (forest page.old w.index) (number page.old w.index node)) }
     ensures kept { KeepsNodes page.old page.new }
-    ensures others { OthersStay page.old page.new w }
+    ensures others { OthersStay page.old page.new w.index }
     ensures host { HostStays page.old page.new }
 {
     match change {
         Label::Set { name, value } => set(page, w, node, name, value),
-        Label::Unset { name } => set_attr(page, w, node, name, None),
+        Label::Unset { name } => set_attr(page, w.index, node, name, None),
         Label::Style { property, value } => restyle(alloc, node, property, value, w, page),
     }
 }
 
 // Sets an attribute.
-fn set(page: &mut Page, w: u32, node: NodeId, name: &Text, value: &Text) -> Result<(), Memory>
-    requires home { HasRoot page.old w }
-    requires own { owns page.old w node ≡ true }
-    requires element { is_text_at (forest page.old w) (number page.old w node) ≡ false }
-    ensures image { OnOk result (forest page.new w ≡
-        relabel_in (meant (Label.Set name.now value.now)) (forest page.old w) (number page.old w node)) }
+fn set(page: &mut Page, w: WidgetId, node: NodeId, name: &Text, value: &Text) -> Result<(), Memory>
+    requires home { HasRoot page.old w.index }
+    requires own { owns page.old w.index node ≡ true }
+    requires element { is_text_at (forest page.old w.index) (number page.old w.index node) ≡ false }
+    ensures image { OnOk result (forest page.new w.index ≡
+        relabel_in (meant (Label.Set name.now value.now)) (forest page.old w.index) (number page.old w.index node)) }
     ensures kept { KeepsNodes page.old page.new }
-    ensures others { OthersStay page.old page.new w }
+    ensures others { OthersStay page.old page.new w.index }
     ensures host { HostStays page.old page.new }
 {
     let value = value.share()?;
-    set_attr(page, w, node, name, Some(value))
+    set_attr(page, w.index, node, name, Some(value))
 }
 
 // Changes elements of a widget.
@@ -86,18 +87,17 @@ fn change_all(
     alloc: Global,
     list: &[NodeId],
     change: &Label,
-    w: u32,
+    w: WidgetId,
     page: &mut Page,
 ) -> Result<(), Memory>
-    requires widget { w < 32 }
-    requires home { HasRoot page.old w }
-    requires own { (n : ℕ) → has_number list.now n ≡ true → owns page.old w n ≡ true }
+    requires home { HasRoot page.old w.index }
+    requires own { (n : ℕ) → has_number list.now n ≡ true → owns page.old w.index n ≡ true }
     requires elements { (n : ℕ) → has_number list.now n ≡ true
-        → is_text_at (forest page.old w) (number page.old w n) ≡ false }
-    ensures image { OnOk result (forest page.new w ≡
-        fold (relabel_in (meant change.now)) (forest page.old w) (map (number page.old w) list.now)) }
+        → is_text_at (forest page.old w.index) (number page.old w.index n) ≡ false }
+    ensures image { OnOk result (forest page.new w.index ≡
+        fold (relabel_in (meant change.now)) (forest page.old w.index) (map (number page.old w.index) list.now)) }
     ensures kept { KeepsNodes page.old page.new }
-    ensures others { OthersStay page.old page.new w }
+    ensures others { OthersStay page.old page.new w.index }
     ensures host { HostStays page.old page.new }
 {
     'each: for node in list {
@@ -114,19 +114,20 @@ pub(crate) fn relabel(
     this: CellId,
     store: &mut Store,
     meter: &mut Meter,
-    w: u32,
+    w: WidgetId,
     page: &mut Page,
 ) -> Result<NativeOut, Memory>
-    requires widget { w < 32 }
-    requires nodes { AreNodes page.old w list.now }
-    requires home { HasRoot page.old w }
-    requires held { IsHeld w store.old.cells this }
-    ensures native { (l : Loop) (b : Option Bool) (c : Price) → IsSound w store.old page.old l → IsPrice how.now.cost c
-        → IfOk result (λ o. RefinesAt w (beside store.old page.old l b)
+    requires nodes { AreNodes page.old w.index list.now }
+    requires home { HasRoot page.old w.index }
+    requires held { IsHeld w.index store.old.cells this }
+    ensures native { (l : Loop) (b : Option Bool) (c : Price) → IsSound w.index store.old page.old l
+        → IsPrice how.now.cost c
+        → IfOk result (λ o. RefinesAt w.index (beside store.old page.old l b)
         (beside store.new page.new l b) meter.old meter.new
-        (λ d s. relabel_plan how.now.test how.now.change c (map (number page.old w) list.now)
-        (seen w store.old.cells (Value.Ref this)) s) o) }
-    ensures kept { (l : Loop) → IsSound w store.old page.old l → KeepsAll w store.old store.new page.old page.new l }
+        (λ d s. relabel_plan how.now.test how.now.change c (map (number page.old w.index) list.now)
+        (seen w.index store.old.cells (Value.Ref this)) s) o) }
+    ensures kept { (l : Loop) → IsSound w.index store.old page.old l
+        → KeepsAll w.index store.old store.new page.old page.new l }
 {
     if !all_pass(list, how.test, w, page) {
         return Ok(NativeOut::Throw(Fault::E10));

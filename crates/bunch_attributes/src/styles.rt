@@ -14,6 +14,7 @@ ghost use Rattle.bunch_attributes.specs.Labels.{sets_nothing};
 
 use code_units::{Memory, Text};
 use js_image::word;
+use native_common::WidgetId;
 use page_image::{attr_of_word, set_attr};
 use page_tree::{NodeId, Page};
 use std::alloc::Global;
@@ -175,24 +176,24 @@ pub(crate) fn restyle(
     node: NodeId,
     property: &Text,
     value: &Text,
-    w: u32,
+    w: WidgetId,
     page: &mut Page,
 ) -> Result<(), Memory>
-    requires home { HasRoot page.old w }
-    requires own { owns page.old w node ≡ true }
-    requires element { is_text_at (forest page.old w) (number page.old w node) ≡ false }
-    ensures image { OnOk result (forest page.new w ≡
-        relabel_in (styled property.now value.now) (forest page.old w) (number page.old w node)) }
+    requires home { HasRoot page.old w.index }
+    requires own { owns page.old w.index node ≡ true }
+    requires element { is_text_at (forest page.old w.index) (number page.old w.index node) ≡ false }
+    ensures image { OnOk result (forest page.new w.index ≡
+        relabel_in (styled property.now value.now) (forest page.old w.index) (number page.old w.index node)) }
     ensures kept { KeepsNodes page.old page.new }
-    ensures others { OthersStay page.old page.new w }
+    ensures others { OthersStay page.old page.new w.index }
     ensures host { HostStays page.old page.new }
 {
     let text = restyled(
         alloc,
-        attr_of_word(page, w, node, b"style"),
+        attr_of_word(page, w.index, node, b"style"),
         property,
         value,
     )?;
     let name = word(alloc, b"style")?;
-    set_attr(page, w, node, &name, text)
+    set_attr(page, w.index, node, &name, text)
 }

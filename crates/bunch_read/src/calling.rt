@@ -1,6 +1,5 @@
 //! The one call of this crate.
-ghost use Rattle.std.specs.Prelude.{◌≡◌, ◌<◌, [], ◌∷◌, true, IfOk, map};
-ghost use Rattle.store_cells.specs.Cells.{IsWidget, number_in};
+ghost use Rattle.std.specs.Prelude.{◌≡◌, [], ◌∷◌, true, IfOk, map};
 ghost use Rattle.widget_meaning.specs.BunchReads.{read_method};
 ghost use Rattle.widget_meaning.specs.Natives.{run_native};
 ghost use Rattle.js_image.specs.Image.{all_seen, seen};
@@ -19,7 +18,7 @@ use code_units::{Memory, Owner};
 use event_loop::Loop;
 use js_image::Fault;
 use js_values::{Meter, NativeOut};
-use native_common::nth;
+use native_common::{WidgetId, nth};
 use native_image::receiver_of;
 use object_store::{NativeId, ReadNative, Store, Value};
 use page_tree::{NodeId, Page};
@@ -36,52 +35,24 @@ pub fn call(
     args: &[Value],
     store: &mut Store,
     meter: &mut Meter,
-    owner: Owner,
+    w: WidgetId,
     page: &Page,
     around: &Loop,
 ) -> Result<NativeOut, Memory>
     requires part { is_part which ≡ true }
-    requires widget { IsWidget owner }
-    requires sound { IsSound (number_in owner) store.old page.now around.now }
-    requires receiver { IsReceiver (number_in owner) store.old.cells this.now }
+    requires sound { IsSound w.index store.old page.now around.now }
+    requires receiver { IsReceiver w.index store.old.cells this.now }
     ensures native { IfOk result
-        (λ o. Reads (number_in owner) store.old store.new page.now around.now meter.old meter.new
-        (run_native which (receiver (number_in owner) store.old.cells this.now)
-        (all_seen (number_in owner) store.old.cells args.now)) o) }
-    ensures holds { HoldsOwn (number_in owner) store.new page.now around.now }
-    ensures kept { KeepsStore (number_in owner) store.old store.new }
-{
-    match owner {
-        Owner::Host => unreachable!(),
-        Owner::Widget(w) => call_of(alloc, which, this, args, store, meter, w, page, around),
-    }
-}
-
-// The same for the number of the owner.
-fn call_of(
-    alloc: Global,
-    which: NativeId,
-    this: &Value,
-    args: &[Value],
-    store: &mut Store,
-    meter: &mut Meter,
-    w: u32,
-    page: &Page,
-    around: &Loop,
-) -> Result<NativeOut, Memory>
-    requires part { is_part which ≡ true }
-    requires widget { w < 32 }
-    requires sound { IsSound w store.old page.now around.now }
-    requires receiver { IsReceiver w store.old.cells this.now }
-    ensures native { IfOk result (λ o. Reads w store.old store.new page.now around.now meter.old meter.new
-        (run_native which (receiver w store.old.cells this.now) (all_seen w store.old.cells args.now)) o) }
-    ensures holds { HoldsOwn w store.new page.now around.now }
-    ensures kept { KeepsStore w store.old store.new }
+        (λ o. Reads w.index store.old store.new page.now around.now meter.old meter.new
+        (run_native which (receiver w.index store.old.cells this.now)
+        (all_seen w.index store.old.cells args.now)) o) }
+    ensures holds { HoldsOwn w.index store.new page.now around.now }
+    ensures kept { KeepsStore w.index store.old store.new }
 {
     let absent = Value::Undefined;
     let first = nth(args, 0, &absent);
     match which {
-        NativeId::Dom(_) => match page.root_of(Owner::Widget(w)) {
+        NativeId::Dom(_) => match page.root_of(Owner::Widget(w.index)) {
             Some(root) => query(alloc, &[root], first, store, meter, w, page, around),
             None => unreachable!(),
         },
@@ -101,18 +72,18 @@ fn read(
     first: &Value,
     store: &mut Store,
     meter: &mut Meter,
-    w: u32,
+    w: WidgetId,
     page: &Page,
     around: &Loop,
 ) -> Result<NativeOut, Memory>
-    requires widget { w < 32 }
     requires method { is_read method ≡ true }
-    requires nodes { AreNodes page.now w list.now }
-    requires sound { IsSound w store.old page.now around.now }
-    ensures native { IfOk result (λ o. Reads w store.old store.new page.now around.now meter.old meter.new
-        (λ d s. read_method method (map (number page.now w) list.now) (seen w store.old.cells first.now ∷ []) s) o) }
-    ensures holds { HoldsOwn w store.new page.now around.now }
-    ensures kept { KeepsStore w store.old store.new }
+    requires nodes { AreNodes page.now w.index list.now }
+    requires sound { IsSound w.index store.old page.now around.now }
+    ensures native { IfOk result (λ o. Reads w.index store.old store.new page.now around.now meter.old meter.new
+        (λ d s. read_method method (map (number page.now w.index) list.now)
+        (seen w.index store.old.cells first.now ∷ []) s) o) }
+    ensures holds { HoldsOwn w.index store.new page.now around.now }
+    ensures kept { KeepsStore w.index store.old store.new }
 {
     match method {
         ReadNative::Explode => unreachable!(),

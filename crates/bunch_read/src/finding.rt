@@ -1,5 +1,5 @@
 //! Bunches that are found from those of the receiver.
-ghost use Rattle.std.specs.Prelude.{◌≡◌, ◌<◌, ◌++◌, ℕ, [], ◌∷◌, Some, true, not, IfOk, OnOk, if◌then◌else◌, length, map, nat_eq};
+ghost use Rattle.std.specs.Prelude.{◌≡◌, ◌++◌, ℕ, [], ◌∷◌, Some, true, not, IfOk, OnOk, if◌then◌else◌, length, map, nat_eq};
 ghost use Rattle.std.specs.List.{IsDistinct, filter_map, list_all};
 ghost use Rattle.query_grammar.specs.Finds.{has_number};
 ghost use Rattle.widget_meaning.specs.BunchReads as means;
@@ -22,7 +22,7 @@ use event_loop::Loop;
 use indexmap::IndexSet;
 use js_image::Fault;
 use js_values::{Meter, NativeOut};
-use native_common::{is_object, read_text, take};
+use native_common::{WidgetId, is_object, read_text, take};
 use native_image::give_bunch;
 use object_store::{Store, Value};
 use page_image::{made, parent};
@@ -53,15 +53,15 @@ fn push(list: &mut Vec<NodeId>, node: NodeId) -> Result<(), Memory>
 fn keep_open(
     found: &mut Vec<NodeId>,
     node: NodeId,
-    w: u32,
+    w: WidgetId,
     page: &Page,
     around: &Loop,
 ) -> Result<(), Memory>
-    requires { owns page.now w node ≡ true }
-    ensures { (g : ℕ → ℕ) (s : State) → Shows page.now w g around.now s.own → OnOk result (found.new.items
-        ≡ found.old.items ++ (if not (kept_at s (number page.now w node)).is_protected then node ∷ [] else [])) }
+    requires { owns page.now w.index node ≡ true }
+    ensures { (g : ℕ → ℕ) (s : State) → Shows page.now w.index g around.now s.own → OnOk result (found.new.items
+        ≡ found.old.items ++ (if not (kept_at s (number page.now w.index node)).is_protected then node ∷ [] else [])) }
 {
-    if is_protected(around, page, w, node) {
+    if is_protected(around, page, w.index, node) {
         return Ok(());
     }
     push(found, node)
@@ -71,13 +71,13 @@ fn keep_open(
 fn open_nodes(
     alloc: Global,
     list: &[NodeId],
-    w: u32,
+    w: WidgetId,
     page: &Page,
     around: &Loop,
 ) -> Result<Vec<NodeId>, Memory>
-    requires { (n : ℕ) → has_number list.now n ≡ true → owns page.now w n ≡ true }
-    ensures { (g : ℕ → ℕ) (s : State) → Shows page.now w g around.now s.own
-        → IfOk result (λ ns. Opens page.now w s list.now ns.items) }
+    requires { (n : ℕ) → has_number list.now n ≡ true → owns page.now w.index n ≡ true }
+    ensures { (g : ℕ → ℕ) (s : State) → Shows page.now w.index g around.now s.own
+        → IfOk result (λ ns. Opens page.now w.index s list.now ns.items) }
 {
     let mut found = Vec::new(alloc);
     'each: for node in list {
@@ -91,21 +91,20 @@ fn found_from(
     alloc: Global,
     starts: &[NodeId],
     query: &Query,
-    w: u32,
+    w: WidgetId,
     page: &Page,
     around: &Loop,
 ) -> Result<Vec<NodeId>, Memory>
-    requires widget { w < 32 }
-    requires starts { (n : ℕ) → has_number starts.now n ≡ true → owns page.now w n ≡ true }
-    requires apart { IsDistinct nat_eq (map (number page.now w) starts.now) }
-    requires focus { OptionIn (owns page.now w) (loop_focus around.now) }
-    ensures image { (g : ℕ → ℕ) (s : State) → Shows page.now w g around.now s.own → IfOk result (λ ns.
-        map (number page.now w) ns.items ≡ finds s (map (number page.now w) starts.now) query.now) }
-    ensures apart { IfOk result (λ ns. AreApart page.now w ns.items) }
+    requires starts { (n : ℕ) → has_number starts.now n ≡ true → owns page.now w.index n ≡ true }
+    requires apart { IsDistinct nat_eq (map (number page.now w.index) starts.now) }
+    requires focus { OptionIn (owns page.now w.index) (loop_focus around.now) }
+    ensures image { (g : ℕ → ℕ) (s : State) → Shows page.now w.index g around.now s.own → IfOk result (λ ns.
+        map (number page.now w.index) ns.items ≡ finds s (map (number page.now w.index) starts.now) query.now) }
+    ensures apart { IfOk result (λ ns. AreApart page.now w.index ns.items) }
 {
     // In the widget's document each node stands once.
-    page.nodes_stand_once(Owner::Widget(w));
-    find(alloc, page, w, around.focus(), starts, query)
+    page.nodes_stand_once(Owner::Widget(w.index));
+    find(alloc, page, w.index, around.focus(), starts, query)
 }
 
 // What a query finds from nodes; protected ones are no starts of `+`.
@@ -113,17 +112,16 @@ fn found(
     alloc: Global,
     list: &[NodeId],
     query: &Query,
-    w: u32,
+    w: WidgetId,
     page: &Page,
     around: &Loop,
 ) -> Result<Vec<NodeId>, Memory>
-    requires widget { w < 32 }
-    requires nodes { AreNodes page.now w list.now }
-    requires shown { (g : ℕ → ℕ) × (s : State) × Shows page.now w g around.now s.own }
-    ensures image { (g : ℕ → ℕ) (s : State) → Shows page.now w g around.now s.own → IfOk result (λ ns.
-        map (number page.now w) ns.items
-        ≡ finds s (means.starts s query.now (map (number page.now w) list.now)) query.now) }
-    ensures apart { IfOk result (λ ns. AreApart page.now w ns.items) }
+    requires nodes { AreNodes page.now w.index list.now }
+    requires shown { (g : ℕ → ℕ) × (s : State) × Shows page.now w.index g around.now s.own }
+    ensures image { (g : ℕ → ℕ) (s : State) → Shows page.now w.index g around.now s.own → IfOk result (λ ns.
+        map (number page.now w.index) ns.items
+        ≡ finds s (means.starts s query.now (map (number page.now w.index) list.now)) query.now) }
+    ensures apart { IfOk result (λ ns. AreApart page.now w.index ns.items) }
 {
     if begins_next(query) {
         let starts = open_nodes(alloc, list, w, page, around)?;
@@ -148,19 +146,18 @@ fn find_bunch(
     query: &Query,
     store: &mut Store,
     meter: &mut Meter,
-    w: u32,
+    w: WidgetId,
     page: &Page,
     around: &Loop,
 ) -> Result<NativeOut, Memory>
-    requires widget { w < 32 }
-    requires nodes { AreNodes page.now w list.now }
-    requires sound { IsSound w store.old page.now around.now }
-    ensures native { IfOk result (λ o. Reads w store.old store.new page.now around.now meter.old meter.new
-        (λ d s. means.query_steps (Some query.now) (map (number page.now w) list.now) s) o) }
-    ensures holds { HoldsOwn w store.new page.now around.now }
-    ensures kept { KeepsStore w store.old store.new }
+    requires nodes { AreNodes page.now w.index list.now }
+    requires sound { IsSound w.index store.old page.now around.now }
+    ensures native { IfOk result (λ o. Reads w.index store.old store.new page.now around.now meter.old meter.new
+        (λ d s. means.query_steps (Some query.now) (map (number page.now w.index) list.now) s) o) }
+    ensures holds { HoldsOwn w.index store.new page.now around.now }
+    ensures kept { KeepsStore w.index store.old store.new }
 {
-    let extra = steps_len(query).saturating_mul(made(page, w) as usize);
+    let extra = steps_len(query).saturating_mul(made(page, w.index) as usize);
     match take(meter, extra) {
         Ok(()) => {
             let nodes = found(alloc, list, query, w, page, around)?;
@@ -177,17 +174,16 @@ pub(crate) fn query(
     text: &Value,
     store: &mut Store,
     meter: &mut Meter,
-    w: u32,
+    w: WidgetId,
     page: &Page,
     around: &Loop,
 ) -> Result<NativeOut, Memory>
-    requires widget { w < 32 }
-    requires nodes { AreNodes page.now w list.now }
-    requires sound { IsSound w store.old page.now around.now }
-    ensures native { IfOk result (λ o. Reads w store.old store.new page.now around.now meter.old meter.new
-        (λ d s. means.query (map (number page.now w) list.now) (seen w store.old.cells text.now) s) o) }
-    ensures holds { HoldsOwn w store.new page.now around.now }
-    ensures kept { KeepsStore w store.old store.new }
+    requires nodes { AreNodes page.now w.index list.now }
+    requires sound { IsSound w.index store.old page.now around.now }
+    ensures native { IfOk result (λ o. Reads w.index store.old store.new page.now around.now meter.old meter.new
+        (λ d s. means.query (map (number page.now w.index) list.now) (seen w.index store.old.cells text.now) s) o) }
+    ensures holds { HoldsOwn w.index store.new page.now around.now }
+    ensures kept { KeepsStore w.index store.old store.new }
 {
     if is_object(text) {
         return Ok(NativeOut::Throw(Fault::E4));
@@ -201,19 +197,19 @@ pub(crate) fn query(
 }
 
 // Whether a node has a parent and is not protected.
-fn is_open(node: NodeId, w: u32, page: &Page, around: &Loop) -> bool
-    requires { owns page.now w node ≡ true }
-    ensures { (g : ℕ → ℕ) (s : State) → Shows page.now w g around.now s.own
-        → result ≡ means.has_open_parent s (number page.now w node) }
+fn is_open(node: NodeId, w: WidgetId, page: &Page, around: &Loop) -> bool
+    requires { owns page.now w.index node ≡ true }
+    ensures { (g : ℕ → ℕ) (s : State) → Shows page.now w.index g around.now s.own
+        → result ≡ means.has_open_parent s (number page.now w.index node) }
 {
-    parent(page, w, node).is_some() && !is_protected(around, page, w, node)
+    parent(page, w.index, node).is_some() && !is_protected(around, page, w.index, node)
 }
 
 // Whether each node has a parent and is not protected.
-fn all_open(list: &[NodeId], w: u32, page: &Page, around: &Loop) -> bool
-    requires { (n : ℕ) → has_number list.now n ≡ true → owns page.now w n ≡ true }
-    ensures { (g : ℕ → ℕ) (s : State) → Shows page.now w g around.now s.own
-        → result ≡ list_all (means.has_open_parent s) (map (number page.now w) list.now) }
+fn all_open(list: &[NodeId], w: WidgetId, page: &Page, around: &Loop) -> bool
+    requires { (n : ℕ) → has_number list.now n ≡ true → owns page.now w.index n ≡ true }
+    ensures { (g : ℕ → ℕ) (s : State) → Shows page.now w.index g around.now s.own
+        → result ≡ list_all (means.has_open_parent s) (map (number page.now w.index) list.now) }
 {
     'each: for node in list {
         if !is_open(*node, w, page, around) {
@@ -254,30 +250,32 @@ fn keep_parent(
     seen: &mut IndexSet<NodeId>,
     found: &mut Vec<NodeId>,
     node: NodeId,
-    w: u32,
+    w: WidgetId,
     page: &Page,
 ) -> Result<(), Memory>
-    requires own { owns page.now w node ≡ true }
+    requires own { owns page.now w.index node ≡ true }
     requires same { seen.old.keys ≡ found.old.items }
-    requires found { AreApart page.now w found.old.items }
-    ensures image { (s : State) → s.own.forest ≡ forest page.now w
-        → OnOk result (map (number page.now w) found.new.items
-        ≡ added (map (number page.now w) found.old.items) (meaning_parent (number page.now w node) s.own.forest)) }
+    requires found { AreApart page.now w.index found.old.items }
+    ensures image { (s : State) → s.own.forest ≡ forest page.now w.index
+        → OnOk result (map (number page.now w.index) found.new.items
+        ≡ added (map (number page.now w.index) found.old.items)
+        (meaning_parent (number page.now w.index node) s.own.forest)) }
     ensures same { OnOk result (seen.new.keys ≡ found.new.items) }
-    ensures found { OnOk result (AreApart page.now w found.new.items) }
+    ensures found { OnOk result (AreApart page.now w.index found.new.items) }
 {
-    match parent(page, w, node) {
+    match parent(page, w.index, node) {
         Some(above) => keep_once(seen, found, above),
         None => Ok(()),
     }
 }
 
 // The parents of nodes, first seen first, each once.
-fn parents(alloc: Global, list: &[NodeId], w: u32, page: &Page) -> Result<Vec<NodeId>, Memory>
-    requires { (n : ℕ) → has_number list.now n ≡ true → owns page.now w n ≡ true }
-    ensures image { (s : State) → s.own.forest ≡ forest page.now w → IfOk result (λ ns. map (number page.now w) ns.items
-        ≡ once [] (filter_map (λ n. meaning_parent n s.own.forest) (map (number page.now w) list.now))) }
-    ensures apart { IfOk result (λ ns. AreApart page.now w ns.items) }
+fn parents(alloc: Global, list: &[NodeId], w: WidgetId, page: &Page) -> Result<Vec<NodeId>, Memory>
+    requires { (n : ℕ) → has_number list.now n ≡ true → owns page.now w.index n ≡ true }
+    ensures image { (s : State) → s.own.forest ≡ forest page.now w.index
+        → IfOk result (λ ns. map (number page.now w.index) ns.items
+        ≡ once [] (filter_map (λ n. meaning_parent n s.own.forest) (map (number page.now w.index) list.now))) }
+    ensures apart { IfOk result (λ ns. AreApart page.now w.index ns.items) }
 {
     let mut seen = IndexSet::new(alloc);
     let mut found = Vec::new(alloc);
@@ -293,17 +291,16 @@ pub(crate) fn get_parent(
     list: &[NodeId],
     store: &mut Store,
     meter: &mut Meter,
-    w: u32,
+    w: WidgetId,
     page: &Page,
     around: &Loop,
 ) -> Result<NativeOut, Memory>
-    requires widget { w < 32 }
-    requires nodes { AreNodes page.now w list.now }
-    requires sound { IsSound w store.old page.now around.now }
-    ensures native { IfOk result (λ o. Reads w store.old store.new page.now around.now meter.old meter.new
-        (λ d s. means.get_parent (map (number page.now w) list.now) s) o) }
-    ensures holds { HoldsOwn w store.new page.now around.now }
-    ensures kept { KeepsStore w store.old store.new }
+    requires nodes { AreNodes page.now w.index list.now }
+    requires sound { IsSound w.index store.old page.now around.now }
+    ensures native { IfOk result (λ o. Reads w.index store.old store.new page.now around.now meter.old meter.new
+        (λ d s. means.get_parent (map (number page.now w.index) list.now) s) o) }
+    ensures holds { HoldsOwn w.index store.new page.now around.now }
+    ensures kept { KeepsStore w.index store.old store.new }
 {
     if !all_open(list, w, page, around) {
         return Ok(NativeOut::Throw(Fault::E10));

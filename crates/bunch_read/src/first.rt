@@ -1,5 +1,5 @@
 //! What else is read of the first node, and how many there are.
-ghost use Rattle.std.specs.Prelude.{◌≡◌, ◌≤◌, ◌<◌, ℕ, List, true, IfOk, codes, length, map, pos, if◌then◌else◌};
+ghost use Rattle.std.specs.Prelude.{◌≡◌, ◌≤◌, ℕ, true, IfOk, codes, length, map, pos, if◌then◌else◌};
 ghost use Rattle.store_cells.specs.Cells.{Cells};
 ghost use Rattle.widget_meaning.specs.BunchReads as means;
 ghost use Rattle.widget_meaning.specs.Costs.{give};
@@ -19,6 +19,7 @@ use event_image::mark;
 use event_loop::Loop;
 use js_image::word;
 use js_values::{Meter, NativeOut};
+use native_common::WidgetId;
 use native_image::give_plain;
 use object_store::{Number, Value};
 use page_image::tag;
@@ -34,45 +35,43 @@ fn count_value(list: &[NodeId]) -> Value
 }
 
 /// `count()`.
-pub(crate) fn count(list: &[NodeId], meter: &mut Meter, w: u32, page: &Page) -> NativeOut
-    requires widget { w < 32 }
-    requires nodes { AreNodes page.now w list.now }
-    ensures { (s : Cells) (l : Loop) → IsSound w s page.now l → Reads w s s page.now l meter.old meter.new
-        (λ d t. charge (length (map (number page.now w) list.now)) t
-        (give (Num (pos (length (map (number page.now w) list.now)))) t)) result }
+pub(crate) fn count(list: &[NodeId], meter: &mut Meter, w: WidgetId, page: &Page) -> NativeOut
+    requires { AreNodes page.now w.index list.now }
+    ensures { (s : Cells) (l : Loop) → IsSound w.index s page.now l → Reads w.index s s page.now l meter.old meter.new
+        (λ d t. charge (length (map (number page.now w.index) list.now)) t
+        (give (Num (pos (length (map (number page.now w.index) list.now)))) t)) result }
 {
     let value = count_value(list);
     give_plain(meter, list.len(), value)
 }
 
 // Whether the first node has the attribute `checked`.
-fn is_checked(list: &[NodeId], w: u32, page: &Page) -> bool
-    requires { AreNodes page.now w list.now }
-    ensures { (s : State) → s.own.forest ≡ forest page.now w
-        → result ≡ means.is_checked s (map (number page.now w) list.now) }
+fn is_checked(list: &[NodeId], w: WidgetId, page: &Page) -> bool
+    requires { AreNodes page.now w.index list.now }
+    ensures { (s : State) → s.own.forest ≡ forest page.now w.index
+        → result ≡ means.is_checked s (map (number page.now w.index) list.now) }
 {
     first_found(list, b"checked", w, page).is_some()
 }
 
 /// `getCheck()`.
-pub(crate) fn get_check(list: &[NodeId], meter: &mut Meter, w: u32, page: &Page) -> NativeOut
-    requires widget { w < 32 }
-    requires nodes { AreNodes page.now w list.now }
-    ensures { (s : Cells) (l : Loop) → IsSound w s page.now l → Reads w s s page.now l meter.old meter.new
-        (λ d t. charge (length (map (number page.now w) list.now)) t
-        (give (Truth (means.is_checked t (map (number page.now w) list.now))) t)) result }
+pub(crate) fn get_check(list: &[NodeId], meter: &mut Meter, w: WidgetId, page: &Page) -> NativeOut
+    requires { AreNodes page.now w.index list.now }
+    ensures { (s : Cells) (l : Loop) → IsSound w.index s page.now l → Reads w.index s s page.now l meter.old meter.new
+        (λ d t. charge (length (map (number page.now w.index) list.now)) t
+        (give (Truth (means.is_checked t (map (number page.now w.index) list.now))) t)) result }
 {
     give_plain(meter, list.len(), Value::Bool(is_checked(list, w, page)))
 }
 
 // The tag of a node, `#text` of a text node.
-fn tag_name(alloc: Global, node: NodeId, w: u32, page: &Page) -> Result<Text, Memory>
-    requires { owns page.now w node ≡ true }
-    ensures { (s : State) → s.own.forest ≡ forest page.now w → IfOk result (λ t. t ≡
-        (if forms.is_text_node s (number page.now w node) then codes "#text" else forms.tag_of s
-        (number page.now w node))) }
+fn tag_name(alloc: Global, node: NodeId, w: WidgetId, page: &Page) -> Result<Text, Memory>
+    requires { owns page.now w.index node ≡ true }
+    ensures { (s : State) → s.own.forest ≡ forest page.now w.index → IfOk result (λ t. t ≡
+        (if forms.is_text_node s (number page.now w.index node) then codes "#text" else forms.tag_of s
+        (number page.now w.index node))) }
 {
-    match tag(page, w, node) {
+    match tag(page, w.index, node) {
         Some(t) => t.share(),
         None => word(alloc, b"#text"),
     }
@@ -82,12 +81,12 @@ fn tag_name(alloc: Global, node: NodeId, w: u32, page: &Page) -> Result<Text, Me
 pub(crate) fn first_tag(
     alloc: Global,
     list: &[NodeId],
-    w: u32,
+    w: WidgetId,
     page: &Page,
 ) -> Result<Option<Text>, Memory>
-    requires { AreNodes page.now w list.now }
-    ensures { (s : State) → s.own.forest ≡ forest page.now w
-        → IfOk result (λ t. t ≡ means.first_tag s (map (number page.now w) list.now)) }
+    requires { AreNodes page.now w.index list.now }
+    ensures { (s : State) → s.own.forest ≡ forest page.now w.index
+        → IfOk result (λ t. t ≡ means.first_tag s (map (number page.now w.index) list.now)) }
 {
     match list.first() {
         Some(node) => Ok(Some(tag_name(alloc, *node, w, page)?)),
@@ -99,16 +98,16 @@ pub(crate) fn first_tag(
 pub(crate) fn first_mark(
     alloc: Global,
     list: &[NodeId],
-    w: u32,
+    w: WidgetId,
     page: &Page,
     around: &Loop,
 ) -> Result<Text, Memory>
-    requires { AreNodes page.now w list.now }
-    ensures { (g : ℕ → ℕ) (s : State) → Shows page.now w g around.now s.own
-        → IfOk result (λ t. t ≡ means.first_mark s (map (number page.now w) list.now)) }
+    requires { AreNodes page.now w.index list.now }
+    ensures { (g : ℕ → ℕ) (s : State) → Shows page.now w.index g around.now s.own
+        → IfOk result (λ t. t ≡ means.first_mark s (map (number page.now w.index) list.now)) }
 {
     match list.first() {
-        Some(node) => shared(alloc, mark(around, page, w, *node)),
+        Some(node) => shared(alloc, mark(around, page, w.index, *node)),
         None => word(alloc, b""),
     }
 }

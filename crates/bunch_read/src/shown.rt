@@ -1,5 +1,5 @@
 //! The methods that show a text of the first node.
-ghost use Rattle.std.specs.Prelude.{◌≡◌, ◌<◌, ℕ, List, IfOk, map};
+ghost use Rattle.std.specs.Prelude.{◌≡◌, ℕ, List, IfOk, map};
 ghost use Rattle.js_tree.specs.Forest.{Forest};
 ghost use Rattle.widget_meaning.specs.BunchReads as means;
 ghost use Rattle.widget_meaning.specs.OwnState.{State};
@@ -14,6 +14,7 @@ use crate::first::{first_mark, first_tag};
 use code_units::{Memory, Text};
 use event_loop::Loop;
 use js_values::{Meter, NativeOut};
+use native_common::WidgetId;
 use native_image::give_page_text;
 use object_store::{ReadNative, Store, Value};
 use page_tree::{NodeId, Page};
@@ -24,14 +25,14 @@ fn shown(
     alloc: Global,
     method: ReadNative,
     list: &[NodeId],
-    w: u32,
+    w: WidgetId,
     page: &Page,
     around: &Loop,
 ) -> Result<Option<Text>, Memory>
     requires other { method ≡ ReadNative.GetValue → ⊥ }
-    requires nodes { AreNodes page.now w list.now }
-    ensures { (g : ℕ → ℕ) (s : State) → Shows page.now w g around.now s.own
-        → IfOk result (λ t. t ≡ means.shown method s (map (number page.now w) list.now)) }
+    requires nodes { AreNodes page.now w.index list.now }
+    ensures { (g : ℕ → ℕ) (s : State) → Shows page.now w.index g around.now s.own
+        → IfOk result (λ t. t ≡ means.shown method s (map (number page.now w.index) list.now)) }
 {
     match method {
         ReadNative::GetValue => unreachable!(),
@@ -50,17 +51,16 @@ pub(crate) fn show(
     list: &[NodeId],
     store: &mut Store,
     meter: &mut Meter,
-    w: u32,
+    w: WidgetId,
     page: &Page,
     around: &Loop,
 ) -> Result<NativeOut, Memory>
     requires other { method ≡ ReadNative.GetValue → ⊥ }
-    requires widget { w < 32 }
-    requires nodes { AreNodes page.now w list.now }
-    ensures native { IsSound w store.old page.now around.now
-        → IfOk result (λ o. Reads w store.old store.new page.now around.now meter.old meter.new
-        (λ d s. means.show method (map (number page.now w) list.now) s) o) }
-    ensures kept { (fs : List Forest) → Kept fs w store.old store.new }
+    requires nodes { AreNodes page.now w.index list.now }
+    ensures native { IsSound w.index store.old page.now around.now
+        → IfOk result (λ o. Reads w.index store.old store.new page.now around.now meter.old meter.new
+        (λ d s. means.show method (map (number page.now w.index) list.now) s) o) }
+    ensures kept { (fs : List Forest) → Kept fs w.index store.old store.new }
 {
     match shown(alloc, method, list, w, page, around)? {
         Some(text) => Ok(give_page_text(store, meter, w, list.len(), text)),

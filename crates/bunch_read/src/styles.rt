@@ -1,5 +1,5 @@
 //! Styles of the first node.
-ghost use Rattle.std.specs.Prelude.{◌≡◌, ◌<◌, List, IfOk, map};
+ghost use Rattle.std.specs.Prelude.{◌≡◌, List, IfOk, map};
 ghost use Rattle.js_tree.specs.Forest.{Forest};
 ghost use Rattle.widget_meaning.specs.BunchReads as means;
 ghost use Rattle.widget_meaning.specs.Styles.{style_pairs, style_value};
@@ -14,7 +14,7 @@ use crate::attributes::first_attribute;
 use code_units::{Memory, Text};
 use js_image::{Fault, word};
 use js_values::{Meter, NativeOut};
-use native_common::{is_object, read_text};
+use native_common::{WidgetId, is_object, read_text};
 use native_image::give_page_text;
 use object_store::{Store, Value};
 use page_tree::{NodeId, Page};
@@ -51,15 +51,15 @@ pub(crate) fn get_style(
     property: &Value,
     store: &mut Store,
     meter: &mut Meter,
-    w: u32,
+    w: WidgetId,
     page: &Page,
 ) -> Result<NativeOut, Memory>
-    requires widget { w < 32 }
-    requires nodes { AreNodes page.now w list.now }
-    ensures native { (l : Loop) → IsSound w store.old page.now l
-        → IfOk result (λ o. Reads w store.old store.new page.now l meter.old meter.new
-        (λ d s. means.get_style (map (number page.now w) list.now) (seen w store.old.cells property.now) s) o) }
-    ensures kept { (fs : List Forest) → Kept fs w store.old store.new }
+    requires { AreNodes page.now w.index list.now }
+    ensures native { (l : Loop) → IsSound w.index store.old page.now l
+        → IfOk result (λ o. Reads w.index store.old store.new page.now l meter.old meter.new
+        (λ d s. means.get_style (map (number page.now w.index) list.now)
+        (seen w.index store.old.cells property.now) s) o) }
+    ensures kept { (fs : List Forest) → Kept fs w.index store.old store.new }
 {
     if is_object(property) {
         return Ok(NativeOut::Throw(Fault::E4));

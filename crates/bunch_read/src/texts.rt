@@ -1,7 +1,7 @@
 //! The values of nodes: an `input` has its attribute `value` or the empty text, a text node its text, another
 //! element its
 //! text content, which is its text nodes in document order.
-ghost use Rattle.std.specs.Prelude.{◌≡◌, ◌<◌, ◌≤◌, ◌++◌, ℕ, List, Some, true, IfOk, OnOk, length, map, sum_by};
+ghost use Rattle.std.specs.Prelude.{◌≡◌, ◌≤◌, ◌++◌, ℕ, List, Some, true, IfOk, OnOk, length, map, sum_by};
 ghost use Rattle.std.specs.List.{list_any};
 ghost use Rattle.plain_tree.specs.Trees.{Label};
 ghost use Rattle.js_tree.specs.Forest.{Forest};
@@ -27,7 +27,7 @@ use crate::attributes::shared;
 use code_units::{Memory, Text, is_word};
 use js_image::{Made, StopCause, make_array};
 use js_values::{Meter, NativeOut};
-use native_common::{take, text_len};
+use native_common::{WidgetId, take, text_len};
 use native_image::make_text;
 use object_store::{Store, Value};
 use page_image::{attr_of_word, children, content, tag};
@@ -35,88 +35,89 @@ use page_tree::{Content, NodeId, Page};
 use std::alloc::Global;
 
 // Whether a node is an `input`.
-fn is_input(node: NodeId, w: u32, page: &Page) -> bool
-    requires { owns page.now w node ≡ true }
-    ensures { (s : State) → s.own.forest ≡ forest page.now w → result ≡ is_input s (number page.now w node) }
+fn is_input(node: NodeId, w: WidgetId, page: &Page) -> bool
+    requires { owns page.now w.index node ≡ true }
+    ensures { (s : State) → s.own.forest ≡ forest page.now w.index
+        → result ≡ is_input s (number page.now w.index node) }
 {
-    match tag(page, w, node) {
+    match tag(page, w.index, node) {
         Some(name) => is_word(name, b"input"),
         None => false,
     }
 }
 
 // What a node has by itself: a text node its units, an element none.
-fn own_units(node: NodeId, w: u32, page: &Page) -> &[u16]
-    requires { owns page.now w node ≡ true }
-    ensures { (l : Label) → label_at page.now w node ≡ Some l → result.now ≡ own_text l }
+fn own_units(node: NodeId, w: WidgetId, page: &Page) -> &[u16]
+    requires { owns page.now w.index node ≡ true }
+    ensures { (l : Label) → label_at page.now w.index node ≡ Some l → result.now ≡ own_text l }
 {
-    match content(page, w, node) {
+    match content(page, w.index, node) {
         Content::Text(text) => text.units(),
         Content::Element(_, _) => &[],
     }
 }
 
 // How many units that are.
-fn own_len(node: NodeId, w: u32, page: &Page) -> usize
-    requires { owns page.now w node ≡ true }
-    ensures { (l : Label) → label_at page.now w node ≡ Some l → result ≡ counted (length (own_text l)) }
+fn own_len(node: NodeId, w: WidgetId, page: &Page) -> usize
+    requires { owns page.now w.index node ≡ true }
+    ensures { (l : Label) → label_at page.now w.index node ≡ Some l → result ≡ counted (length (own_text l)) }
 {
-    match content(page, w, node) {
+    match content(page, w.index, node) {
         Content::Text(text) => text_len(text),
         Content::Element(_, _) => 0,
     }
 }
 
 // How many units the text content of a node has.
-fn content_len(node: NodeId, w: u32, page: &Page) -> usize
-    requires { owns page.now w node ≡ true }
-    ensures { result ≡ counted (length (texts_of (subtree (number page.now w node) (forest page.now w)))) }
+fn content_len(node: NodeId, w: WidgetId, page: &Page) -> usize
+    requires { owns page.now w.index node ≡ true }
+    ensures { result ≡ counted (length (texts_of (subtree (number page.now w.index node) (forest page.now w.index)))) }
 {
     let mut len = own_len(node, w, page);
-    'each: for child in children(page, w, node) {
+    'each: for child in children(page, w.index, node) {
         len = len.saturating_add(content_len(*child, w, page));
     }
     len
 }
 
 // Appends the text content of a node.
-fn push_content(units: &mut Vec<u16>, node: NodeId, w: u32, page: &Page) -> Result<(), Memory>
-    requires { owns page.now w node ≡ true }
+fn push_content(units: &mut Vec<u16>, node: NodeId, w: WidgetId, page: &Page) -> Result<(), Memory>
+    requires { owns page.now w.index node ≡ true }
     ensures { OnOk result (units.new.items
-        ≡ units.old.items ++ texts_of (subtree (number page.now w node) (forest page.now w))) }
+        ≡ units.old.items ++ texts_of (subtree (number page.now w.index node) (forest page.now w.index))) }
 {
     units.extend_from_slice(own_units(node, w, page))?;
-    'each: for child in children(page, w, node) {
+    'each: for child in children(page, w.index, node) {
         push_content(units, *child, w, page)?;
     }
     Ok(())
 }
 
 // How many units the value of a node has.
-fn value_len(node: NodeId, w: u32, page: &Page) -> usize
-    requires { owns page.now w node ≡ true }
-    ensures { (s : State) → s.own.forest ≡ forest page.now w
-        → result ≡ counted (length (means.value_of s (number page.now w node))) }
+fn value_len(node: NodeId, w: WidgetId, page: &Page) -> usize
+    requires { owns page.now w.index node ≡ true }
+    ensures { (s : State) → s.own.forest ≡ forest page.now w.index
+        → result ≡ counted (length (means.value_of s (number page.now w.index node))) }
 {
     if !is_input(node, w, page) {
         return content_len(node, w, page);
     }
-    match attr_of_word(page, w, node, b"value") {
+    match attr_of_word(page, w.index, node, b"value") {
         Some(value) => text_len(value),
         None => 0,
     }
 }
 
 // The value of a node.
-fn value_of(alloc: Global, node: NodeId, w: u32, page: &Page) -> Result<Text, Memory>
-    requires { owns page.now w node ≡ true }
-    ensures { (s : State) → s.own.forest ≡ forest page.now w
-        → IfOk result (λ t. t ≡ means.value_of s (number page.now w node)) }
+fn value_of(alloc: Global, node: NodeId, w: WidgetId, page: &Page) -> Result<Text, Memory>
+    requires { owns page.now w.index node ≡ true }
+    ensures { (s : State) → s.own.forest ≡ forest page.now w.index
+        → IfOk result (λ t. t ≡ means.value_of s (number page.now w.index node)) }
 {
     if is_input(node, w, page) {
-        return shared(alloc, attr_of_word(page, w, node, b"value"));
+        return shared(alloc, attr_of_word(page, w.index, node, b"value"));
     }
-    if let Content::Text(text) = content(page, w, node) {
+    if let Content::Text(text) = content(page, w.index, node) {
         return text.share();
     }
     let mut units = Vec::new(alloc);
@@ -131,16 +132,15 @@ fn give_value(
     count: usize,
     store: &mut Store,
     meter: &mut Meter,
-    w: u32,
+    w: WidgetId,
     page: &Page,
 ) -> Result<NativeOut, Memory>
-    requires widget { w < 32 }
-    requires own { owns page.now w node ≡ true }
+    requires own { owns page.now w.index node ≡ true }
     requires few { count ≤ 16384 }
-    ensures native { (l : Loop) → IsSound w store.old page.now l
-        → IfOk result (λ o. Reads w store.old store.new page.now l meter.old meter.new
-        (λ d s. value_plan count (means.value_of s (number page.now w node)) s) o) }
-    ensures kept { (fs : List Forest) → Kept fs w store.old store.new }
+    ensures native { (l : Loop) → IsSound w.index store.old page.now l
+        → IfOk result (λ o. Reads w.index store.old store.new page.now l meter.old meter.new
+        (λ d s. value_plan count (means.value_of s (number page.now w.index node)) s) o) }
+    ensures kept { (fs : List Forest) → Kept fs w.index store.old store.new }
 {
     let extra = count.saturating_add(value_len(node, w, page));
     match take(meter, extra) {
@@ -158,15 +158,14 @@ pub(crate) fn get_value(
     list: &[NodeId],
     store: &mut Store,
     meter: &mut Meter,
-    w: u32,
+    w: WidgetId,
     page: &Page,
 ) -> Result<NativeOut, Memory>
-    requires widget { w < 32 }
-    requires nodes { AreNodes page.now w list.now }
-    ensures native { (l : Loop) → IsSound w store.old page.now l
-        → IfOk result (λ o. Reads w store.old store.new page.now l meter.old meter.new
-        (λ d s. means.show GetValue (map (number page.now w) list.now) s) o) }
-    ensures kept { (fs : List Forest) → Kept fs w store.old store.new }
+    requires { AreNodes page.now w.index list.now }
+    ensures native { (l : Loop) → IsSound w.index store.old page.now l
+        → IfOk result (λ o. Reads w.index store.old store.new page.now l meter.old meter.new
+        (λ d s. means.show GetValue (map (number page.now w.index) list.now) s) o) }
+    ensures kept { (fs : List Forest) → Kept fs w.index store.old store.new }
 {
     match list.first() {
         Some(node) => give_value(alloc, *node, list.len(), store, meter, w, page),
@@ -175,10 +174,10 @@ pub(crate) fn get_value(
 }
 
 // How many units the values of nodes have together.
-fn values_len(list: &[NodeId], w: u32, page: &Page) -> usize
-    requires { (n : ℕ) → has_number list.now n ≡ true → owns page.now w n ≡ true }
-    ensures { (s : State) → s.own.forest ≡ forest page.now w
-        → result ≡ counted (all_units s (map (number page.now w) list.now)) }
+fn values_len(list: &[NodeId], w: WidgetId, page: &Page) -> usize
+    requires { (n : ℕ) → has_number list.now n ≡ true → owns page.now w.index n ≡ true }
+    ensures { (s : State) → s.own.forest ≡ forest page.now w.index
+        → result ≡ counted (all_units s (map (number page.now w.index) list.now)) }
 {
     let mut len = 0usize;
     'each: for node in list {
@@ -188,10 +187,11 @@ fn values_len(list: &[NodeId], w: u32, page: &Page) -> usize
 }
 
 // The values of nodes.
-fn values_of(alloc: Global, list: &[NodeId], w: u32, page: &Page) -> Result<Vec<Value>, Memory>
-    requires { (n : ℕ) → has_number list.now n ≡ true → owns page.now w n ≡ true }
-    ensures texts { (s : State) → s.own.forest ≡ forest page.now w
-        → IfOk result (λ vs. vs.items ≡ map Value.Text (map (means.value_of s) (map (number page.now w) list.now))) }
+fn values_of(alloc: Global, list: &[NodeId], w: WidgetId, page: &Page) -> Result<Vec<Value>, Memory>
+    requires { (n : ℕ) → has_number list.now n ≡ true → owns page.now w.index n ≡ true }
+    ensures texts { (s : State) → s.own.forest ≡ forest page.now w.index
+        → IfOk result (λ vs. vs.items
+        ≡ map Value.Text (map (means.value_of s) (map (number page.now w.index) list.now))) }
     ensures fine { IfOk result (λ vs. (u : ℕ) (cells : List PlainCell) → AreFine u cells vs.items) }
 {
     let mut values = Vec::new(alloc);
@@ -227,21 +227,20 @@ fn any_long(values: &[Value]) -> bool
 fn give_texts(
     alloc: Global,
     store: &mut Store,
-    w: u32,
+    w: WidgetId,
     values: Vec<Value>,
     units: u32,
 ) -> Result<NativeOut, Memory>
-    requires widget { w < 32 }
-    requires texts { AreFine w store.old.cells values.items }
+    requires { AreFine w.index store.old.cells values.items }
     ensures ends { IfOk result (λ o. (ts : List (List ℕ)) → values.items ≡ map Value.Text ts → units ≡ sum_by length ts
-        → Ends w store.old store.new (λ d s. forms.give_texts ts s) o) }
+        → Ends w.index store.old store.new (λ d s. forms.give_texts ts s) o) }
     ensures fires { IfOk result (λ o. (v : ℕ) (h : Parts) → FiresAtOwn v h o) }
-    ensures kept { (fs : List Forest) → Kept fs w store.old store.new }
+    ensures kept { (fs : List Forest) → Kept fs w.index store.old store.new }
 {
     if any_long(&values) {
         return Ok(NativeOut::Stop(StopCause::LongText));
     }
-    match make_array(alloc, store, w, values, units)? {
+    match make_array(alloc, store, w.index, values, units)? {
         Made::Cell(id) => Ok(NativeOut::Value(Value::Ref(id))),
         Made::Stop(cause) => Ok(NativeOut::Stop(cause)),
     }
@@ -253,15 +252,14 @@ pub(crate) fn get_values(
     list: &[NodeId],
     store: &mut Store,
     meter: &mut Meter,
-    w: u32,
+    w: WidgetId,
     page: &Page,
 ) -> Result<NativeOut, Memory>
-    requires widget { w < 32 }
-    requires nodes { AreNodes page.now w list.now }
-    ensures native { (l : Loop) → IsSound w store.old page.now l
-        → IfOk result (λ o. Reads w store.old store.new page.now l meter.old meter.new
-        (λ d s. means.get_values (map (number page.now w) list.now) s) o) }
-    ensures kept { (fs : List Forest) → Kept fs w store.old store.new }
+    requires { AreNodes page.now w.index list.now }
+    ensures native { (l : Loop) → IsSound w.index store.old page.now l
+        → IfOk result (λ o. Reads w.index store.old store.new page.now l meter.old meter.new
+        (λ d s. means.get_values (map (number page.now w.index) list.now) s) o) }
+    ensures kept { (fs : List Forest) → Kept fs w.index store.old store.new }
 {
     let units = values_len(list, w, page);
 

@@ -1,5 +1,5 @@
 //! `append`.
-ghost use Rattle.std.specs.Prelude.{◌≡◌, ◌<◌, ◌*◌, ℕ, [], ◌∷◌, Bool, Option, true, IfOk, map};
+ghost use Rattle.std.specs.Prelude.{◌≡◌, ◌*◌, ℕ, [], ◌∷◌, Bool, Option, true, IfOk, map};
 ghost use Rattle.std.specs.List.{list_all};
 ghost use Rattle.plain_tree.specs.Trees.{size};
 ghost use Rattle.query_grammar.specs.Finds.{has_number};
@@ -25,7 +25,7 @@ use crate::rooted::none_root;
 use code_units::{Memory, Owner};
 use js_image::Fault;
 use js_values::{Meter, NativeOut};
-use native_common::take;
+use native_common::{WidgetId, take};
 use native_image::{Bill, bunch_of, pay_judged, settle, weigh};
 use object_store::{Store, Value};
 use page_tree::{NodeId, Page};
@@ -36,18 +36,19 @@ fn all_take(
     alloc: Global,
     targets: &[NodeId],
     news: &[NodeId],
-    w: u32,
+    w: WidgetId,
     page: &Page,
 ) -> Result<bool, Memory>
-    requires home { HasRoot page.now w }
-    requires targets { (n : ℕ) → has_number targets.now n ≡ true → owns page.now w n ≡ true }
-    requires news { (n : ℕ) → has_number news.now n ≡ true → owns page.now w n ≡ true }
+    requires home { HasRoot page.now w.index }
+    requires targets { (n : ℕ) → has_number targets.now n ≡ true → owns page.now w.index n ≡ true }
+    requires news { (n : ℕ) → has_number news.now n ≡ true → owns page.now w.index n ≡ true }
     ensures { IfOk result (λ b. b ≡
-        list_all (takes (forest page.now w) (map (number page.now w) news.now)) (map (number page.now w) targets.now)) }
+        list_all (takes (forest page.now w.index) (map (number page.now w.index) news.now))
+        (map (number page.now w.index) targets.now)) }
 {
     let mut in_order = news.to_vec(alloc)?;
     in_order.sort_unstable();
-    Ok(page.may_append_to(Owner::Widget(w), targets, news, &in_order))
+    Ok(page.may_append_to(Owner::Widget(w.index), targets, news, &in_order))
 }
 
 // The cost is weighed, the nodes are appended, and the Bunch is given back.
@@ -59,20 +60,19 @@ fn append_weighed(
     store: &mut Store,
     page: &mut Page,
 ) -> Result<NativeOut, Memory>
-    requires widget { bunch.now.w < 32 }
-    requires nodes { AreNodes page.old bunch.now.w bunch.now.nodes.now }
-    requires held { IsHeld bunch.now.w store.old.cells bunch.now.cell }
-    requires news { (n : ℕ) → has_number news.now n ≡ true → owns page.old bunch.now.w n ≡ true }
-    requires size { extent.nodes ≡ counted (size (trees_at page.old bunch.now.w news.now)) }
-    requires units { extent.units ≡ counted (tree_units (trees_at page.old bunch.now.w news.now)) }
-    requires sound { (l : Loop) × IsSound bunch.now.w store.old page.old l }
-    ensures ends { (l : Loop) (b : Option Bool) → IsSound bunch.now.w store.old page.old l → IfOk result (λ o.
-        EndsAt bunch.now.w (beside store.old page.old l b) (beside store.new page.new l b)
-        (λ d s. append_paid (map (number page.old bunch.now.w) bunch.now.nodes.now)
-        (map (number page.old bunch.now.w) news.now)
-        (seen bunch.now.w store.old.cells (Value.Ref bunch.now.cell)) s) o) }
-    ensures kept { (l : Loop) → IsSound bunch.now.w store.old page.old l
-        → KeepsAll bunch.now.w store.old store.new page.old page.new l }
+    requires nodes { AreNodes page.old bunch.now.w.index bunch.now.nodes.now }
+    requires held { IsHeld bunch.now.w.index store.old.cells bunch.now.cell }
+    requires news { (n : ℕ) → has_number news.now n ≡ true → owns page.old bunch.now.w.index n ≡ true }
+    requires size { extent.nodes ≡ counted (size (trees_at page.old bunch.now.w.index news.now)) }
+    requires units { extent.units ≡ counted (tree_units (trees_at page.old bunch.now.w.index news.now)) }
+    requires sound { (l : Loop) × IsSound bunch.now.w.index store.old page.old l }
+    ensures ends { (l : Loop) (b : Option Bool) → IsSound bunch.now.w.index store.old page.old l → IfOk result (λ o.
+        EndsAt bunch.now.w.index (beside store.old page.old l b) (beside store.new page.new l b)
+        (λ d s. append_paid (map (number page.old bunch.now.w.index) bunch.now.nodes.now)
+        (map (number page.old bunch.now.w.index) news.now)
+        (seen bunch.now.w.index store.old.cells (Value.Ref bunch.now.cell)) s) o) }
+    ensures kept { (l : Loop) → IsSound bunch.now.w.index store.old page.old l
+        → KeepsAll bunch.now.w.index store.old store.new page.old page.new l }
 {
     let copies = bunch.nodes.len().saturating_sub(1);
     let units = copies.saturating_mul(extent.units);
@@ -102,18 +102,17 @@ fn append_nodes(
     meter: &mut Meter,
     page: &mut Page,
 ) -> Result<NativeOut, Memory>
-    requires widget { bunch.now.w < 32 }
-    requires nodes { AreNodes page.old bunch.now.w bunch.now.nodes.now }
-    requires held { IsHeld bunch.now.w store.old.cells bunch.now.cell }
-    requires news { (n : ℕ) → has_number news.now n ≡ true → owns page.old bunch.now.w n ≡ true }
-    requires sound { (l : Loop) × IsSound bunch.now.w store.old page.old l }
-    ensures native { (l : Loop) (b : Option Bool) → IsSound bunch.now.w store.old page.old l → IfOk result (λ o.
-        RefinesAt bunch.now.w (beside store.old page.old l b) (beside store.new page.new l b) meter.old meter.new
-        (λ d s. append_nodes (map (number page.old bunch.now.w) bunch.now.nodes.now)
-        (map (number page.old bunch.now.w) news.now)
-        (seen bunch.now.w store.old.cells (Value.Ref bunch.now.cell)) s) o) }
-    ensures kept { (l : Loop) → IsSound bunch.now.w store.old page.old l
-        → KeepsAll bunch.now.w store.old store.new page.old page.new l }
+    requires nodes { AreNodes page.old bunch.now.w.index bunch.now.nodes.now }
+    requires held { IsHeld bunch.now.w.index store.old.cells bunch.now.cell }
+    requires news { (n : ℕ) → has_number news.now n ≡ true → owns page.old bunch.now.w.index n ≡ true }
+    requires sound { (l : Loop) × IsSound bunch.now.w.index store.old page.old l }
+    ensures native { (l : Loop) (b : Option Bool) → IsSound bunch.now.w.index store.old page.old l → IfOk result (λ o.
+        RefinesAt bunch.now.w.index (beside store.old page.old l b) (beside store.new page.new l b) meter.old meter.new
+        (λ d s. append_nodes (map (number page.old bunch.now.w.index) bunch.now.nodes.now)
+        (map (number page.old bunch.now.w.index) news.now)
+        (seen bunch.now.w.index store.old.cells (Value.Ref bunch.now.cell)) s) o) }
+    ensures kept { (l : Loop) → IsSound bunch.now.w.index store.old page.old l
+        → KeepsAll bunch.now.w.index store.old store.new page.old page.new l }
 {
     let takes = all_take(alloc, bunch.nodes, news, bunch.w, page)?;
     if !takes {
@@ -139,18 +138,17 @@ pub fn append(
     meter: &mut Meter,
     page: &mut Page,
 ) -> Result<NativeOut, Memory>
-    requires widget { bunch.now.w < 32 }
-    requires nodes { AreNodes page.old bunch.now.w bunch.now.nodes.now }
-    requires held { IsHeld bunch.now.w store.old.cells bunch.now.cell }
-    requires other { IsFine bunch.now.w store.old.cells other.now }
-    requires sound { (l : Loop) × IsSound bunch.now.w store.old page.old l }
-    ensures native { (l : Loop) (b : Option Bool) → IsSound bunch.now.w store.old page.old l → IfOk result (λ o.
-        RefinesAt bunch.now.w (beside store.old page.old l b) (beside store.new page.new l b) meter.old meter.new
-        (λ d s. means.write_method names.Append (map (number page.old bunch.now.w) bunch.now.nodes.now)
-        (seen bunch.now.w store.old.cells (Value.Ref bunch.now.cell))
-        (seen bunch.now.w store.old.cells other.now ∷ []) d s) o) }
-    ensures kept { (l : Loop) → IsSound bunch.now.w store.old page.old l
-        → KeepsAll bunch.now.w store.old store.new page.old page.new l }
+    requires nodes { AreNodes page.old bunch.now.w.index bunch.now.nodes.now }
+    requires held { IsHeld bunch.now.w.index store.old.cells bunch.now.cell }
+    requires other { IsFine bunch.now.w.index store.old.cells other.now }
+    requires sound { (l : Loop) × IsSound bunch.now.w.index store.old page.old l }
+    ensures native { (l : Loop) (b : Option Bool) → IsSound bunch.now.w.index store.old page.old l → IfOk result (λ o.
+        RefinesAt bunch.now.w.index (beside store.old page.old l b) (beside store.new page.new l b) meter.old meter.new
+        (λ d s. means.write_method names.Append (map (number page.old bunch.now.w.index) bunch.now.nodes.now)
+        (seen bunch.now.w.index store.old.cells (Value.Ref bunch.now.cell))
+        (seen bunch.now.w.index store.old.cells other.now ∷ []) d s) o) }
+    ensures kept { (l : Loop) → IsSound bunch.now.w.index store.old page.old l
+        → KeepsAll bunch.now.w.index store.old store.new page.old page.new l }
 {
     match bunch_of(alloc, store, bunch.w, page, other)? {
         Some(news) => append_nodes(alloc, bunch, &news, store, meter, page),

@@ -15,6 +15,7 @@ ghost use Rattle.native_image.specs.Sound.{HoldsOwn, IsSound, KeepsAll};
 ghost use Rattle.bunch_trees.specs.Changes.{Changes};
 
 use code_units::Memory;
+use native_common::WidgetId;
 use native_image::copy_tree;
 use object_store::Store;
 use page_tree::{NodeId, Page};
@@ -24,20 +25,21 @@ use std::alloc::Global;
 /// want of memory.
 pub(crate) fn put_under(
     page: &mut Page,
-    w: u32,
+    w: WidgetId,
     target: NodeId,
     news: &[NodeId],
 ) -> Result<(), Memory>
-    requires home { HasRoot page.old w }
-    requires target { owns page.old w target ≡ true }
-    requires news { (n : ℕ) → has_number news.now n ≡ true → owns page.old w n ≡ true }
-    ensures image { OnOk result (forest page.new w ≡
-        fold (moved (number page.old w target) None) (forest page.old w) (map (number page.old w) news.now)) }
+    requires home { HasRoot page.old w.index }
+    requires target { owns page.old w.index target ≡ true }
+    requires news { (n : ℕ) → has_number news.now n ≡ true → owns page.old w.index n ≡ true }
+    ensures image { OnOk result (forest page.new w.index ≡
+        fold (moved (number page.old w.index target) None) (forest page.old w.index)
+        (map (number page.old w.index) news.now)) }
     ensures kept { KeepsNodes page.old page.new }
-    ensures others { OthersStay page.old page.new w }
+    ensures others { OthersStay page.old page.new w.index }
     ensures host { HostStays page.old page.new }
 {
-    match page_image::append(page, w, target, news) {
+    match page_image::append(page, w.index, target, news) {
         Ok(()) => Ok(()),
         Err(_) => Err(Memory),
     }
@@ -56,16 +58,17 @@ fn copy_all(
     alloc: Global,
     store: &mut Store,
     page: &mut Page,
-    w: u32,
+    w: WidgetId,
     news: &[NodeId],
 ) -> Result<Vec<NodeId>, Memory>
-    requires widget { w < 32 }
-    requires news { (n : ℕ) → has_number news.now n ≡ true → owns page.old w n ≡ true }
-    ensures copied { IfOk result (λ ids. AreCopied page.old page.new w news.now ids.items) }
-    ensures sound { OnOk result ((l : Loop) → IsSound w store.old page.old l → IsSound w store.new page.new l) }
+    requires { (n : ℕ) → has_number news.now n ≡ true → owns page.old w.index n ≡ true }
+    ensures copied { IfOk result (λ ids. AreCopied page.old page.new w.index news.now ids.items) }
+    ensures sound { OnOk result ((l : Loop) → IsSound w.index store.old page.old l
+        → IsSound w.index store.new page.new l) }
     ensures same { (v : ℕ) → owned v store.new ≡ owned v store.old }
-    ensures store { (fs : List Forest) → Kept fs w store.old store.new }
-    ensures kept { (l : Loop) → HoldsOwn w store.old page.old l → KeepsAll w store.old store.new page.old page.new l }
+    ensures store { (fs : List Forest) → Kept fs w.index store.old store.new }
+    ensures kept { (l : Loop) → HoldsOwn w.index store.old page.old l
+        → KeepsAll w.index store.old store.new page.old page.new l }
 {
     let mut ids = Vec::new(alloc);
     'each: for node in news {
@@ -80,17 +83,17 @@ fn append_copies(
     alloc: Global,
     store: &mut Store,
     page: &mut Page,
-    w: u32,
+    w: WidgetId,
     target: NodeId,
     news: &[NodeId],
 ) -> Result<(), Memory>
-    requires widget { w < 32 }
-    requires sound { (l : Loop) × IsSound w store.old page.old l }
-    requires target { owns page.old w target ≡ true }
-    requires news { (n : ℕ) → has_number news.now n ≡ true → owns page.old w n ≡ true }
-    ensures done { OnOk result (Changes w store.old store.new page.old page.new
-        (with_copies (number page.old w target) (map (number page.old w) news.now))) }
-    ensures kept { (l : Loop) → HoldsOwn w store.old page.old l → KeepsAll w store.old store.new page.old page.new l }
+    requires sound { (l : Loop) × IsSound w.index store.old page.old l }
+    requires target { owns page.old w.index target ≡ true }
+    requires news { (n : ℕ) → has_number news.now n ≡ true → owns page.old w.index n ≡ true }
+    ensures done { OnOk result (Changes w.index store.old store.new page.old page.new
+        (with_copies (number page.old w.index target) (map (number page.old w.index) news.now))) }
+    ensures kept { (l : Loop) → HoldsOwn w.index store.old page.old l
+        → KeepsAll w.index store.old store.new page.old page.new l }
 {
     let ids = copy_all(alloc, store, page, w, news)?;
     put_under(page, w, target, &ids)
@@ -101,18 +104,18 @@ fn copies_to(
     alloc: Global,
     store: &mut Store,
     page: &mut Page,
-    w: u32,
+    w: WidgetId,
     targets: &[NodeId],
     news: &[NodeId],
 ) -> Result<(), Memory>
-    requires widget { w < 32 }
-    requires sound { (l : Loop) × IsSound w store.old page.old l }
-    requires targets { (n : ℕ) → has_number targets.now n ≡ true → owns page.old w n ≡ true }
-    requires news { (n : ℕ) → has_number news.now n ≡ true → owns page.old w n ≡ true }
-    ensures done { OnOk result (Changes w store.old store.new page.old page.new
-        (λ s. fold (λ u t. with_copies t (map (number page.old w) news.now) u) s
-        (map (number page.old w) targets.now))) }
-    ensures kept { (l : Loop) → HoldsOwn w store.old page.old l → KeepsAll w store.old store.new page.old page.new l }
+    requires sound { (l : Loop) × IsSound w.index store.old page.old l }
+    requires targets { (n : ℕ) → has_number targets.now n ≡ true → owns page.old w.index n ≡ true }
+    requires news { (n : ℕ) → has_number news.now n ≡ true → owns page.old w.index n ≡ true }
+    ensures done { OnOk result (Changes w.index store.old store.new page.old page.new
+        (λ s. fold (λ u t. with_copies t (map (number page.old w.index) news.now) u) s
+        (map (number page.old w.index) targets.now))) }
+    ensures kept { (l : Loop) → HoldsOwn w.index store.old page.old l
+        → KeepsAll w.index store.old store.new page.old page.new l }
 {
     'each: for target in targets {
         append_copies(alloc, store, page, w, *target, news)?;
@@ -141,17 +144,17 @@ pub(crate) fn append_all(
     alloc: Global,
     store: &mut Store,
     page: &mut Page,
-    w: u32,
+    w: WidgetId,
     targets: &[NodeId],
     news: &[NodeId],
 ) -> Result<(), Memory>
-    requires widget { w < 32 }
-    requires sound { (l : Loop) × IsSound w store.old page.old l }
-    requires targets { (n : ℕ) → has_number targets.now n ≡ true → owns page.old w n ≡ true }
-    requires news { (n : ℕ) → has_number news.now n ≡ true → owns page.old w n ≡ true }
-    ensures done { OnOk result (Changes w store.old store.new page.old page.new
-        (appended (map (number page.old w) targets.now) (map (number page.old w) news.now))) }
-    ensures kept { (l : Loop) → HoldsOwn w store.old page.old l → KeepsAll w store.old store.new page.old page.new l }
+    requires sound { (l : Loop) × IsSound w.index store.old page.old l }
+    requires targets { (n : ℕ) → has_number targets.now n ≡ true → owns page.old w.index n ≡ true }
+    requires news { (n : ℕ) → has_number news.now n ≡ true → owns page.old w.index n ≡ true }
+    ensures done { OnOk result (Changes w.index store.old store.new page.old page.new
+        (appended (map (number page.old w.index) targets.now) (map (number page.old w.index) news.now))) }
+    ensures kept { (l : Loop) → HoldsOwn w.index store.old page.old l
+        → KeepsAll w.index store.old store.new page.old page.new l }
 {
     if targets.is_empty() {
         return Ok(());

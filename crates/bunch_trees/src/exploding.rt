@@ -20,25 +20,24 @@ ghost use Rattle.bunch_trees.specs.Explodes.{IsEmptyArray, IsExploded, explode_p
 use code_units::Memory;
 use js_image::{Fault, Made, Paid, make_array, pay_slots, push_paid};
 use js_values::{Meter, NativeOut};
-use native_common::take;
+use native_common::{WidgetId, take};
 use native_image::{Bill, make_bunches, receiver_of, settle, weigh};
 use object_store::{CellId, Store, Value};
 use page_tree::{NodeId, Page};
 use std::alloc::Global;
 
 // An Array of no elements. Where it cannot be paid, it is answered like want of memory.
-fn empty_array(alloc: Global, store: &mut Store, w: u32) -> Result<CellId, Memory>
-    requires { w < 32 }
+fn empty_array(alloc: Global, store: &mut Store, w: WidgetId) -> Result<CellId, Memory>
     ensures made { OnOk result ((fs : List Forest) (r : Rest) (c : Amounts)
-        → with_counts (joint.image fs r w store.new) c
-        ≡ with_new_cell (with_counts (joint.image fs r w store.old) c) (new_array 0 [])) }
+        → with_counts (joint.image fs r w.index store.new) c
+        ≡ with_new_cell (with_counts (joint.image fs r w.index store.old) c) (new_array 0 [])) }
     ensures number { IfOk result (λ id. (fs : List Forest) (r : Rest)
-        → seen w store.new.cells (Value.Ref id) ≡ Own (length (joint.image fs r w store.old).own.heap)) }
-    ensures held { IfOk result (IsHeld w store.new.cells) }
-    ensures kept { (fs : List Forest) → Kept fs w store.old store.new }
+        → seen w.index store.new.cells (Value.Ref id) ≡ Own (length (joint.image fs r w.index store.old).own.heap)) }
+    ensures held { IfOk result (IsHeld w.index store.new.cells) }
+    ensures kept { (fs : List Forest) → Kept fs w.index store.old store.new }
 {
     let none = Vec::new(alloc);
-    match make_array(alloc, store, w, none, 0)? {
+    match make_array(alloc, store, w.index, none, 0)? {
         Made::Cell(id) => Ok(id),
         Made::Stop(_) => Err(Memory),
     }
@@ -57,35 +56,35 @@ fn value_at(values: &[Value], at: usize) -> Result<Value, Memory>
 fn put_all(
     alloc: Global,
     store: &mut Store,
-    w: u32,
+    w: WidgetId,
     array: CellId,
     values: &[Value],
 ) -> Result<(), Memory>
-    requires held { IsHeld w store.old.cells array }
-    requires values { AreFine w store.old.cells values.now }
+    requires held { IsHeld w.index store.old.cells array }
+    requires values { AreFine w.index store.old.cells values.now }
     requires few { length values.now ≤ 16384 }
-    ensures done { OnOk result ((fs : List Forest) (r : Rest) (n : ℕ) → seen w store.old.cells (Value.Ref array) ≡ Own n
-        → IsEmptyArray (joint.image fs r w store.old) n
-        → joint.image fs r w store.new
-        ≡ filled n (all_seen w store.old.cells values.now) (joint.image fs r w store.old)) }
-    ensures kept { (fs : List Forest) → Kept fs w store.old store.new }
+    ensures done { OnOk result ((fs : List Forest) (r : Rest) (n : ℕ)
+        → seen w.index store.old.cells (Value.Ref array) ≡ Own n
+        → IsEmptyArray (joint.image fs r w.index store.old) n
+        → joint.image fs r w.index store.new
+        ≡ filled n (all_seen w.index store.old.cells values.now) (joint.image fs r w.index store.old)) }
+    ensures kept { (fs : List Forest) → Kept fs w.index store.old store.new }
 {
     for at in 0..values.len() {
         let value = value_at(values, at)?;
-        push_paid(alloc, store, w, array, at as u32, value)?;
+        push_paid(alloc, store, w.index, array, at as u32, value)?;
     }
     Ok(())
 }
 
 // Pays for slots that were judged before. Where they cannot be paid, it is answered like want of
 // memory.
-fn pay_judged_slots(store: &mut Store, w: u32, n: u32) -> Result<(), Memory>
-    requires { w < 32 }
+fn pay_judged_slots(store: &mut Store, w: WidgetId, n: u32) -> Result<(), Memory>
     ensures paid { OnOk result ((fs : List Forest) (r : Rest) (c : Amounts)
-        → with_counts (joint.image fs r w store.new) c ≡ with_counts (joint.image fs r w store.old) c) }
-    ensures kept { (fs : List Forest) → Kept fs w store.old store.new }
+        → with_counts (joint.image fs r w.index store.new) c ≡ with_counts (joint.image fs r w.index store.old) c) }
+    ensures kept { (fs : List Forest) → Kept fs w.index store.old store.new }
 {
-    match pay_slots(store, w, n) {
+    match pay_slots(store, w.index, n) {
         Paid::Done => Ok(()),
         Paid::Stop(_) => Err(Memory),
     }
@@ -95,17 +94,16 @@ fn pay_judged_slots(store: &mut Store, w: u32, n: u32) -> Result<(), Memory>
 fn make_exploded(
     alloc: Global,
     store: &mut Store,
-    w: u32,
+    w: WidgetId,
     page: &Page,
     nodes: &[NodeId],
 ) -> Result<CellId, Memory>
-    requires widget { w < 32 }
-    requires nodes { AreNodes page.now w nodes.now }
-    requires sound { (l : Loop) × IsSound w store.old page.now l }
-    ensures made { IfOk result (λ id. (l : Loop) → IsSound w store.old page.now l
-        → IsExploded w store.old store.new page.now l (map (number page.now w) nodes.now) id) }
-    ensures sound { (l : Loop) → IsSound w store.old page.now l → IsSound w store.new page.now l }
-    ensures kept { KeepsStore w store.old store.new }
+    requires nodes { AreNodes page.now w.index nodes.now }
+    requires sound { (l : Loop) × IsSound w.index store.old page.now l }
+    ensures made { IfOk result (λ id. (l : Loop) → IsSound w.index store.old page.now l
+        → IsExploded w.index store.old store.new page.now l (map (number page.now w.index) nodes.now) id) }
+    ensures sound { (l : Loop) → IsSound w.index store.old page.now l → IsSound w.index store.new page.now l }
+    ensures kept { KeepsStore w.index store.old store.new }
 {
     let array = empty_array(alloc, store, w)?;
     let bunches = make_bunches(alloc, store, w, page, nodes)?;
@@ -119,16 +117,16 @@ fn explode_weighed(
     alloc: Global,
     nodes: &[NodeId],
     store: &mut Store,
-    w: u32,
+    w: WidgetId,
     page: &Page,
 ) -> Result<NativeOut, Memory>
-    requires widget { w < 32 }
-    requires nodes { AreNodes page.now w nodes.now }
-    requires sound { (l : Loop) × IsSound w store.old page.now l }
-    ensures ends { (l : Loop) (b : Option Bool) → IsSound w store.old page.now l → IfOk result (λ o.
-        EndsAt w (beside store.old page.now l b) (beside store.new page.now l b)
-        (λ d s. explode_paid (map (number page.now w) nodes.now) s) o) }
-    ensures kept { (l : Loop) → IsSound w store.old page.now l → KeepsAll w store.old store.new page.now page.now l }
+    requires nodes { AreNodes page.now w.index nodes.now }
+    requires sound { (l : Loop) × IsSound w.index store.old page.now l }
+    ensures ends { (l : Loop) (b : Option Bool) → IsSound w.index store.old page.now l → IfOk result (λ o.
+        EndsAt w.index (beside store.old page.now l b) (beside store.new page.now l b)
+        (λ d s. explode_paid (map (number page.now w.index) nodes.now) s) o) }
+    ensures kept { (l : Loop) → IsSound w.index store.old page.now l
+        → KeepsAll w.index store.old store.new page.now page.now l }
 {
     let many = nodes.len() as u32;
     let bill = Bill {
@@ -153,16 +151,16 @@ fn explode_nodes(
     nodes: &[NodeId],
     store: &mut Store,
     meter: &mut Meter,
-    w: u32,
+    w: WidgetId,
     page: &Page,
 ) -> Result<NativeOut, Memory>
-    requires widget { w < 32 }
-    requires nodes { AreNodes page.now w nodes.now }
-    requires sound { (l : Loop) × IsSound w store.old page.now l }
-    ensures native { (l : Loop) (b : Option Bool) → IsSound w store.old page.now l → IfOk result (λ o.
-        RefinesAt w (beside store.old page.now l b) (beside store.new page.now l b) meter.old meter.new
-        (λ d s. means.explode (map (number page.now w) nodes.now) s) o) }
-    ensures kept { (l : Loop) → IsSound w store.old page.now l → KeepsAll w store.old store.new page.now page.now l }
+    requires nodes { AreNodes page.now w.index nodes.now }
+    requires sound { (l : Loop) × IsSound w.index store.old page.now l }
+    ensures native { (l : Loop) (b : Option Bool) → IsSound w.index store.old page.now l → IfOk result (λ o.
+        RefinesAt w.index (beside store.old page.now l b) (beside store.new page.now l b) meter.old meter.new
+        (λ d s. means.explode (map (number page.now w.index) nodes.now) s) o) }
+    ensures kept { (l : Loop) → IsSound w.index store.old page.now l
+        → KeepsAll w.index store.old store.new page.now page.now l }
 {
     match take(meter, nodes.len()) {
         Ok(()) => explode_weighed(alloc, nodes, store, w, page),
@@ -176,16 +174,17 @@ pub fn explode(
     this: &Value,
     store: &mut Store,
     meter: &mut Meter,
-    w: u32,
+    w: WidgetId,
     page: &Page,
 ) -> Result<NativeOut, Memory>
-    requires widget { w < 32 }
-    requires receiver { IsReceiver w store.old.cells this.now }
-    requires sound { (l : Loop) × IsSound w store.old page.now l }
-    ensures native { (l : Loop) (b : Option Bool) (vs : List Meant) → IsSound w store.old page.now l → IfOk result (λ o.
-        RefinesAt w (beside store.old page.now l b) (beside store.new page.now l b) meter.old meter.new
-        (λ d s. means.read_native names.Explode (receiver w store.old.cells this.now) vs d s) o) }
-    ensures kept { (l : Loop) → IsSound w store.old page.now l → KeepsAll w store.old store.new page.now page.now l }
+    requires receiver { IsReceiver w.index store.old.cells this.now }
+    requires sound { (l : Loop) × IsSound w.index store.old page.now l }
+    ensures native { (l : Loop) (b : Option Bool) (vs : List Meant) → IsSound w.index store.old page.now l
+        → IfOk result (λ o.
+        RefinesAt w.index (beside store.old page.now l b) (beside store.new page.now l b) meter.old meter.new
+        (λ d s. means.read_native names.Explode (receiver w.index store.old.cells this.now) vs d s) o) }
+    ensures kept { (l : Loop) → IsSound w.index store.old page.now l
+        → KeepsAll w.index store.old store.new page.now page.now l }
 {
     match receiver_of(alloc, store, w, page, this)? {
         Some(list) => explode_nodes(alloc, &list, store, meter, w, page),

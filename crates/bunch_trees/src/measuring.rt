@@ -11,7 +11,7 @@ ghost use Rattle.page_image.specs.Image.{forest, label_at, number, owns};
 ghost use Rattle.bunch_trees.specs.Appends.{label_units};
 
 use code_units::{Text, is_word};
-use native_common::text_len;
+use native_common::{WidgetId, text_len};
 use page_image::{children, content};
 use page_tree::{Content, NodeId, Page};
 
@@ -36,11 +36,11 @@ fn values_len(attributes: &[(Text, Text)]) -> usize
 }
 
 // The units of a copy of a node by itself.
-fn own_units(node: NodeId, w: u32, page: &Page) -> usize
-    requires { owns page.now w node ≡ true }
-    ensures { (l : Label) → label_at page.now w node ≡ Some l → result ≡ counted (label_units l) }
+fn own_units(node: NodeId, w: WidgetId, page: &Page) -> usize
+    requires { owns page.now w.index node ≡ true }
+    ensures { (l : Label) → label_at page.now w.index node ≡ Some l → result ≡ counted (label_units l) }
 {
-    match content(page, w, node) {
+    match content(page, w.index, node) {
         Content::Text(text) => text_len(text),
         Content::Element(_, attributes) => values_len(attributes),
     }
@@ -58,26 +58,27 @@ fn plus(a: Extent, b: Extent) -> Extent
 }
 
 /// The measure of a widget's node with what is below it.
-pub(crate) fn measure(node: NodeId, w: u32, page: &Page) -> Extent
-    requires { owns page.now w node ≡ true }
-    ensures nodes { result.nodes ≡ counted (size (subtree (number page.now w node) (forest page.now w))) }
-    ensures units { result.units ≡ counted (tree_units (subtree (number page.now w node) (forest page.now w))) }
+pub(crate) fn measure(node: NodeId, w: WidgetId, page: &Page) -> Extent
+    requires { owns page.now w.index node ≡ true }
+    ensures nodes { result.nodes ≡ counted (size (subtree (number page.now w.index node) (forest page.now w.index))) }
+    ensures units { result.units
+        ≡ counted (tree_units (subtree (number page.now w.index node) (forest page.now w.index))) }
 {
     let mut all = Extent {
         nodes: 1,
         units: own_units(node, w, page),
     };
-    'each: for child in children(page, w, node) {
+    'each: for child in children(page, w.index, node) {
         all = plus(all, measure(*child, w, page));
     }
     all
 }
 
 /// The measure of several.
-pub(crate) fn measure_all(nodes: &[NodeId], w: u32, page: &Page) -> Extent
-    requires { (n : ℕ) → has_number nodes.now n ≡ true → owns page.now w n ≡ true }
-    ensures nodes { result.nodes ≡ counted (size (trees_at page.now w nodes.now)) }
-    ensures units { result.units ≡ counted (tree_units (trees_at page.now w nodes.now)) }
+pub(crate) fn measure_all(nodes: &[NodeId], w: WidgetId, page: &Page) -> Extent
+    requires { (n : ℕ) → has_number nodes.now n ≡ true → owns page.now w.index n ≡ true }
+    ensures nodes { result.nodes ≡ counted (size (trees_at page.now w.index nodes.now)) }
+    ensures units { result.units ≡ counted (tree_units (trees_at page.now w.index nodes.now)) }
 {
     let mut all = Extent { nodes: 0, units: 0 };
     'each: for node in nodes {

@@ -1,5 +1,5 @@
 //! The root of a widget: `dom.append`, and nodes that are not the root.
-ghost use Rattle.std.specs.Prelude.{◌≡◌, ◌<◌, ℕ, [], ◌∷◌, Bool, Option, true, IfOk, map};
+ghost use Rattle.std.specs.Prelude.{◌≡◌, ℕ, [], ◌∷◌, Bool, Option, true, IfOk, map};
 ghost use Rattle.std.specs.List.{list_all};
 ghost use Rattle.query_grammar.specs.Finds.{has_number};
 ghost use Rattle.widget_meaning.specs.BunchWrites as writes;
@@ -20,7 +20,7 @@ use crate::measuring::measure_all;
 use code_units::{Memory, Owner};
 use js_image::Fault;
 use js_values::{Meter, NativeOut};
-use native_common::take;
+use native_common::{WidgetId, take};
 use native_image::{Bill, bunch_of, bunch_of_node, settle, weigh};
 use object_store::{Store, Value};
 use page_image::{is_root, may_append};
@@ -28,13 +28,13 @@ use page_tree::{NodeId, Page};
 use std::alloc::Global;
 
 /// Whether none of these nodes is the root.
-pub fn none_root(list: &[NodeId], w: u32, page: &Page) -> bool
-    requires home { HasRoot page.now w }
-    requires own { (n : ℕ) → has_number list.now n ≡ true → owns page.now w n ≡ true }
-    ensures { result ≡ list_all writes.is_no_root (map (number page.now w) list.now) }
+pub fn none_root(list: &[NodeId], w: WidgetId, page: &Page) -> bool
+    requires home { HasRoot page.now w.index }
+    requires own { (n : ℕ) → has_number list.now n ≡ true → owns page.now w.index n ≡ true }
+    ensures { result ≡ list_all writes.is_no_root (map (number page.now w.index) list.now) }
 {
     'each: for node in list {
-        if is_root(page, w, *node) {
+        if is_root(page, w.index, *node) {
             return false;
         }
     }
@@ -42,13 +42,12 @@ pub fn none_root(list: &[NodeId], w: u32, page: &Page) -> bool
 }
 
 // The root of a widget.
-fn root_of(w: u32, page: &Page) -> NodeId
-    requires widget { w < 32 }
-    requires home { HasRoot page.now w }
-    ensures own { owns page.now w result ≡ true }
-    ensures first { number page.now w result ≡ 0 }
+fn root_of(w: WidgetId, page: &Page) -> NodeId
+    requires { HasRoot page.now w.index }
+    ensures own { owns page.now w.index result ≡ true }
+    ensures first { number page.now w.index result ≡ 0 }
 {
-    match page.root_of(Owner::Widget(w)) {
+    match page.root_of(Owner::Widget(w.index)) {
         Some(root) => root,
         None => unreachable!(),
     }
@@ -60,18 +59,18 @@ fn under_root(
     news: &[NodeId],
     root: NodeId,
     store: &mut Store,
-    w: u32,
+    w: WidgetId,
     page: &mut Page,
 ) -> Result<NativeOut, Memory>
-    requires widget { w < 32 }
-    requires own { owns page.old w root ≡ true }
-    requires first { number page.old w root ≡ 0 }
-    requires news { (n : ℕ) → has_number news.now n ≡ true → owns page.old w n ≡ true }
-    requires sound { (l : Loop) × IsSound w store.old page.old l }
-    ensures ends { (l : Loop) (b : Option Bool) → IsSound w store.old page.old l → IfOk result (λ o.
-        EndsAt w (beside store.old page.old l b) (beside store.new page.new l b)
-        (λ d s. root_paid (map (number page.old w) news.now) s) o) }
-    ensures kept { (l : Loop) → IsSound w store.old page.old l → KeepsAll w store.old store.new page.old page.new l }
+    requires own { owns page.old w.index root ≡ true }
+    requires first { number page.old w.index root ≡ 0 }
+    requires news { (n : ℕ) → has_number news.now n ≡ true → owns page.old w.index n ≡ true }
+    requires sound { (l : Loop) × IsSound w.index store.old page.old l }
+    ensures ends { (l : Loop) (b : Option Bool) → IsSound w.index store.old page.old l → IfOk result (λ o.
+        EndsAt w.index (beside store.old page.old l b) (beside store.new page.new l b)
+        (λ d s. root_paid (map (number page.old w.index) news.now) s) o) }
+    ensures kept { (l : Loop) → IsSound w.index store.old page.old l
+        → KeepsAll w.index store.old store.new page.old page.new l }
 {
     let bill = Bill {
         units: 0,
@@ -96,19 +95,19 @@ fn append_to_root(
     news: &[NodeId],
     store: &mut Store,
     meter: &mut Meter,
-    w: u32,
+    w: WidgetId,
     page: &mut Page,
 ) -> Result<NativeOut, Memory>
-    requires widget { w < 32 }
-    requires news { (n : ℕ) → has_number news.now n ≡ true → owns page.old w n ≡ true }
-    requires sound { (l : Loop) × IsSound w store.old page.old l }
-    ensures native { (l : Loop) (b : Option Bool) → IsSound w store.old page.old l → IfOk result (λ o.
-        RefinesAt w (beside store.old page.old l b) (beside store.new page.new l b) meter.old meter.new
-        (λ d s. root_plan (map (number page.old w) news.now) s) o) }
-    ensures kept { (l : Loop) → IsSound w store.old page.old l → KeepsAll w store.old store.new page.old page.new l }
+    requires news { (n : ℕ) → has_number news.now n ≡ true → owns page.old w.index n ≡ true }
+    requires sound { (l : Loop) × IsSound w.index store.old page.old l }
+    ensures native { (l : Loop) (b : Option Bool) → IsSound w.index store.old page.old l → IfOk result (λ o.
+        RefinesAt w.index (beside store.old page.old l b) (beside store.new page.new l b) meter.old meter.new
+        (λ d s. root_plan (map (number page.old w.index) news.now) s) o) }
+    ensures kept { (l : Loop) → IsSound w.index store.old page.old l
+        → KeepsAll w.index store.old store.new page.old page.new l }
 {
     let root = root_of(w, page);
-    if !may_append(page, w, root, news) {
+    if !may_append(page, w.index, root, news) {
         return Ok(NativeOut::Throw(Fault::E10));
     }
     let extent = measure_all(news, w, page);
@@ -125,17 +124,17 @@ pub fn dom_append(
     other: &Value,
     store: &mut Store,
     meter: &mut Meter,
-    w: u32,
+    w: WidgetId,
     page: &mut Page,
 ) -> Result<NativeOut, Memory>
-    requires widget { w < 32 }
-    requires other { IsFine w store.old.cells other.now }
-    requires sound { (l : Loop) × IsSound w store.old page.old l }
-    ensures native { (l : Loop) (b : Option Bool) (this : Option Meant) → IsSound w store.old page.old l
+    requires other { IsFine w.index store.old.cells other.now }
+    requires sound { (l : Loop) × IsSound w.index store.old page.old l }
+    ensures native { (l : Loop) (b : Option Bool) (this : Option Meant) → IsSound w.index store.old page.old l
         → IfOk result (λ o.
-        RefinesAt w (beside store.old page.old l b) (beside store.new page.new l b) meter.old meter.new
-        (λ d s. means.dom_native names.DomAppend this (seen w store.old.cells other.now ∷ []) d s) o) }
-    ensures kept { (l : Loop) → IsSound w store.old page.old l → KeepsAll w store.old store.new page.old page.new l }
+        RefinesAt w.index (beside store.old page.old l b) (beside store.new page.new l b) meter.old meter.new
+        (λ d s. means.dom_native names.DomAppend this (seen w.index store.old.cells other.now ∷ []) d s) o) }
+    ensures kept { (l : Loop) → IsSound w.index store.old page.old l
+        → KeepsAll w.index store.old store.new page.old page.new l }
 {
     match bunch_of(alloc, store, w, page, other)? {
         Some(news) => append_to_root(alloc, &news, store, meter, w, page),

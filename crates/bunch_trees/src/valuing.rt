@@ -1,5 +1,5 @@
 //! `value`.
-ghost use Rattle.std.specs.Prelude.{◌≡◌, ◌<◌, ◌≤◌, ◌*◌, ℕ, [], ◌∷◌, Bool, Option, true, codes, cond, IfOk, map};
+ghost use Rattle.std.specs.Prelude.{◌≡◌, ◌≤◌, ◌*◌, ℕ, [], ◌∷◌, Bool, Option, true, codes, cond, IfOk, map};
 ghost use Rattle.std.specs.List.{count_by, list_all};
 ghost use Rattle.query_grammar.specs.Finds.{has_number};
 ghost use Rattle.widget_meaning.specs.BunchWrites as means;
@@ -21,7 +21,7 @@ use bunch_attributes::{is_input, is_text_node};
 use code_units::{Memory, Text, is_word};
 use js_image::{Fault, word};
 use js_values::{Meter, NativeOut};
-use native_common::{is_object, read_text, take, text_len};
+use native_common::{WidgetId, is_object, read_text, take, text_len};
 use native_image::{Bill, pay_judged, settle, weigh};
 use object_store::{Store, Value};
 use page_image::{depth, tag};
@@ -36,22 +36,22 @@ fn is_closed_tag(name: &Text) -> bool
 }
 
 // Whether a node takes no value, whatever it is.
-fn is_closed(node: NodeId, w: u32, page: &Page) -> bool
-    requires { owns page.now w node ≡ true }
-    ensures { (s : State) → s.own.forest ≡ forest page.now w
-        → result ≡ is_tag (codes "br" ∷ codes "hr" ∷ codes "img" ∷ []) s (number page.now w node) }
+fn is_closed(node: NodeId, w: WidgetId, page: &Page) -> bool
+    requires { owns page.now w.index node ≡ true }
+    ensures { (s : State) → s.own.forest ≡ forest page.now w.index
+        → result ≡ is_tag (codes "br" ∷ codes "hr" ∷ codes "img" ∷ []) s (number page.now w.index node) }
 {
-    match tag(page, w, node) {
+    match tag(page, w.index, node) {
         Some(name) => is_closed_tag(name),
         None => false,
     }
 }
 
 // Whether a node gets a new text node for a value.
-fn gets_text(node: NodeId, text: &Text, w: u32, page: &Page) -> bool
-    requires { owns page.now w node ≡ true }
-    ensures { (s : State) → s.own.forest ≡ forest page.now w
-        → result ≡ means.has_new_text s text.now (number page.now w node) }
+fn gets_text(node: NodeId, text: &Text, w: WidgetId, page: &Page) -> bool
+    requires { owns page.now w.index node ≡ true }
+    ensures { (s : State) → s.own.forest ≡ forest page.now w.index
+        → result ≡ means.has_new_text s text.now (number page.now w.index node) }
 {
     if text.units().is_empty() {
         return false;
@@ -60,10 +60,10 @@ fn gets_text(node: NodeId, text: &Text, w: u32, page: &Page) -> bool
 }
 
 // Whether a node takes a value.
-fn takes_value(node: NodeId, text: &Text, w: u32, page: &Page) -> bool
-    requires { owns page.now w node ≡ true }
-    ensures { (s : State) → s.own.forest ≡ forest page.now w
-        → result ≡ means.is_value_target s text.now (number page.now w node) }
+fn takes_value(node: NodeId, text: &Text, w: WidgetId, page: &Page) -> bool
+    requires { owns page.now w.index node ≡ true }
+    ensures { (s : State) → s.own.forest ≡ forest page.now w.index
+        → result ≡ means.is_value_target s text.now (number page.now w.index node) }
 {
     if is_closed(node, w, page) {
         return false;
@@ -71,14 +71,14 @@ fn takes_value(node: NodeId, text: &Text, w: u32, page: &Page) -> bool
     if !gets_text(node, text, w, page) {
         return true;
     }
-    depth(page, w, node) < 200
+    depth(page, w.index, node) < 200
 }
 
 // Whether each node takes a value.
-fn all_take(nodes: &[NodeId], text: &Text, w: u32, page: &Page) -> bool
-    requires { (n : ℕ) → has_number nodes.now n ≡ true → owns page.now w n ≡ true }
-    ensures { (s : State) → s.own.forest ≡ forest page.now w
-        → result ≡ list_all (means.is_value_target s text.now) (map (number page.now w) nodes.now) }
+fn all_take(nodes: &[NodeId], text: &Text, w: WidgetId, page: &Page) -> bool
+    requires { (n : ℕ) → has_number nodes.now n ≡ true → owns page.now w.index n ≡ true }
+    ensures { (s : State) → s.own.forest ≡ forest page.now w.index
+        → result ≡ list_all (means.is_value_target s text.now) (map (number page.now w.index) nodes.now) }
 {
     'each: for node in nodes {
         if !takes_value(*node, text, w, page) {
@@ -89,20 +89,20 @@ fn all_take(nodes: &[NodeId], text: &Text, w: u32, page: &Page) -> bool
 }
 
 // How many new text nodes a node gets.
-fn new_text(node: NodeId, text: &Text, w: u32, page: &Page) -> usize
-    requires { owns page.now w node ≡ true }
-    ensures one { (s : State) → s.own.forest ≡ forest page.now w
-        → result ≡ cond (means.has_new_text s text.now (number page.now w node)) 1 0 }
+fn new_text(node: NodeId, text: &Text, w: WidgetId, page: &Page) -> usize
+    requires { owns page.now w.index node ≡ true }
+    ensures one { (s : State) → s.own.forest ≡ forest page.now w.index
+        → result ≡ cond (means.has_new_text s text.now (number page.now w.index node)) 1 0 }
     ensures few { result ≤ 1 }
 {
     if gets_text(node, text, w, page) { 1 } else { 0 }
 }
 
 // How many there will be.
-fn new_texts(nodes: &[NodeId], text: &Text, w: u32, page: &Page) -> usize
-    requires { (n : ℕ) → has_number nodes.now n ≡ true → owns page.now w n ≡ true }
-    ensures { (s : State) → s.own.forest ≡ forest page.now w
-        → result ≡ count_by (means.has_new_text s text.now) (map (number page.now w) nodes.now) }
+fn new_texts(nodes: &[NodeId], text: &Text, w: WidgetId, page: &Page) -> usize
+    requires { (n : ℕ) → has_number nodes.now n ≡ true → owns page.now w.index n ≡ true }
+    ensures { (s : State) → s.own.forest ≡ forest page.now w.index
+        → result ≡ count_by (means.has_new_text s text.now) (map (number page.now w.index) nodes.now) }
 {
     let mut many: usize = 0;
     'each: for node in nodes {
@@ -119,16 +119,15 @@ fn value_weighed(
     store: &mut Store,
     page: &mut Page,
 ) -> Result<NativeOut, Memory>
-    requires widget { bunch.now.w < 32 }
-    requires nodes { AreNodes page.old bunch.now.w bunch.now.nodes.now }
-    requires held { IsHeld bunch.now.w store.old.cells bunch.now.cell }
-    requires sound { (l : Loop) × IsSound bunch.now.w store.old page.old l }
-    ensures ends { (l : Loop) (b : Option Bool) → IsSound bunch.now.w store.old page.old l → IfOk result (λ o.
-        EndsAt bunch.now.w (beside store.old page.old l b) (beside store.new page.new l b)
-        (λ d s. value_paid (map (number page.old bunch.now.w) bunch.now.nodes.now) text
-        (seen bunch.now.w store.old.cells (Value.Ref bunch.now.cell)) s) o) }
-    ensures kept { (l : Loop) → IsSound bunch.now.w store.old page.old l
-        → KeepsAll bunch.now.w store.old store.new page.old page.new l }
+    requires nodes { AreNodes page.old bunch.now.w.index bunch.now.nodes.now }
+    requires held { IsHeld bunch.now.w.index store.old.cells bunch.now.cell }
+    requires sound { (l : Loop) × IsSound bunch.now.w.index store.old page.old l }
+    ensures ends { (l : Loop) (b : Option Bool) → IsSound bunch.now.w.index store.old page.old l → IfOk result (λ o.
+        EndsAt bunch.now.w.index (beside store.old page.old l b) (beside store.new page.new l b)
+        (λ d s. value_paid (map (number page.old bunch.now.w.index) bunch.now.nodes.now) text
+        (seen bunch.now.w.index store.old.cells (Value.Ref bunch.now.cell)) s) o) }
+    ensures kept { (l : Loop) → IsSound bunch.now.w.index store.old page.old l
+        → KeepsAll bunch.now.w.index store.old store.new page.old page.new l }
 {
     let units = bunch.nodes.len().saturating_mul(text_len(&text));
     let bill = Bill {
@@ -159,16 +158,15 @@ fn give_value(
     meter: &mut Meter,
     page: &mut Page,
 ) -> Result<NativeOut, Memory>
-    requires widget { bunch.now.w < 32 }
-    requires nodes { AreNodes page.old bunch.now.w bunch.now.nodes.now }
-    requires held { IsHeld bunch.now.w store.old.cells bunch.now.cell }
-    requires sound { (l : Loop) × IsSound bunch.now.w store.old page.old l }
-    ensures native { (l : Loop) (b : Option Bool) → IsSound bunch.now.w store.old page.old l → IfOk result (λ o.
-        RefinesAt bunch.now.w (beside store.old page.old l b) (beside store.new page.new l b) meter.old meter.new
-        (λ d s. means.set_value (map (number page.old bunch.now.w) bunch.now.nodes.now) text
-        (seen bunch.now.w store.old.cells (Value.Ref bunch.now.cell)) s) o) }
-    ensures kept { (l : Loop) → IsSound bunch.now.w store.old page.old l
-        → KeepsAll bunch.now.w store.old store.new page.old page.new l }
+    requires nodes { AreNodes page.old bunch.now.w.index bunch.now.nodes.now }
+    requires held { IsHeld bunch.now.w.index store.old.cells bunch.now.cell }
+    requires sound { (l : Loop) × IsSound bunch.now.w.index store.old page.old l }
+    ensures native { (l : Loop) (b : Option Bool) → IsSound bunch.now.w.index store.old page.old l → IfOk result (λ o.
+        RefinesAt bunch.now.w.index (beside store.old page.old l b) (beside store.new page.new l b) meter.old meter.new
+        (λ d s. means.set_value (map (number page.old bunch.now.w.index) bunch.now.nodes.now) text
+        (seen bunch.now.w.index store.old.cells (Value.Ref bunch.now.cell)) s) o) }
+    ensures kept { (l : Loop) → IsSound bunch.now.w.index store.old page.old l
+        → KeepsAll bunch.now.w.index store.old store.new page.old page.new l }
 {
     if !all_take(bunch.nodes, &text, bunch.w, page) {
         return Ok(NativeOut::Throw(Fault::E10));
@@ -188,17 +186,16 @@ pub fn set_value(
     meter: &mut Meter,
     page: &mut Page,
 ) -> Result<NativeOut, Memory>
-    requires widget { bunch.now.w < 32 }
-    requires nodes { AreNodes page.old bunch.now.w bunch.now.nodes.now }
-    requires held { IsHeld bunch.now.w store.old.cells bunch.now.cell }
-    requires sound { (l : Loop) × IsSound bunch.now.w store.old page.old l }
-    ensures native { (l : Loop) (b : Option Bool) → IsSound bunch.now.w store.old page.old l → IfOk result (λ o.
-        RefinesAt bunch.now.w (beside store.old page.old l b) (beside store.new page.new l b) meter.old meter.new
-        (λ d s. means.write_method names.SetValue (map (number page.old bunch.now.w) bunch.now.nodes.now)
-        (seen bunch.now.w store.old.cells (Value.Ref bunch.now.cell))
-        (seen bunch.now.w store.old.cells value.now ∷ []) d s) o) }
-    ensures kept { (l : Loop) → IsSound bunch.now.w store.old page.old l
-        → KeepsAll bunch.now.w store.old store.new page.old page.new l }
+    requires nodes { AreNodes page.old bunch.now.w.index bunch.now.nodes.now }
+    requires held { IsHeld bunch.now.w.index store.old.cells bunch.now.cell }
+    requires sound { (l : Loop) × IsSound bunch.now.w.index store.old page.old l }
+    ensures native { (l : Loop) (b : Option Bool) → IsSound bunch.now.w.index store.old page.old l → IfOk result (λ o.
+        RefinesAt bunch.now.w.index (beside store.old page.old l b) (beside store.new page.new l b) meter.old meter.new
+        (λ d s. means.write_method names.SetValue (map (number page.old bunch.now.w.index) bunch.now.nodes.now)
+        (seen bunch.now.w.index store.old.cells (Value.Ref bunch.now.cell))
+        (seen bunch.now.w.index store.old.cells value.now ∷ []) d s) o) }
+    ensures kept { (l : Loop) → IsSound bunch.now.w.index store.old page.old l
+        → KeepsAll bunch.now.w.index store.old store.new page.old page.new l }
 {
     if is_object(value) {
         return Ok(NativeOut::Throw(Fault::E4));

@@ -15,6 +15,7 @@ ghost use Rattle.bunch_trees.specs.Changes.{Changes};
 use crate::copying::put_under;
 use bunch_attributes::{is_input, is_text_node};
 use code_units::{Memory, Text};
+use native_common::WidgetId;
 use native_image::add_tree;
 use object_store::Store;
 use page_image::{empty, set_attr, set_text};
@@ -41,17 +42,17 @@ fn put_text(
     alloc: Global,
     store: &mut Store,
     page: &mut Page,
-    w: u32,
+    w: WidgetId,
     node: NodeId,
     text: Text,
 ) -> Result<(), Memory>
-    requires widget { w < 32 }
-    requires sound { (l : Loop) × IsSound w store.old page.old l }
-    requires own { owns page.old w node ≡ true }
+    requires sound { (l : Loop) × IsSound w.index store.old page.old l }
+    requires own { owns page.old w.index node ≡ true }
     requires some { 0 < length text }
     ensures done { OnOk result
-        (Changes w store.old store.new page.old page.new (with_text_node (number page.old w node) text)) }
-    ensures kept { (l : Loop) → HoldsOwn w store.old page.old l → KeepsAll w store.old store.new page.old page.new l }
+        (Changes w.index store.old store.new page.old page.new (with_text_node (number page.old w.index node) text)) }
+    ensures kept { (l : Loop) → HoldsOwn w.index store.old page.old l
+        → KeepsAll w.index store.old store.new page.old page.new l }
 {
     let plain = text_tree(text);
     let id = add_tree(alloc, store, page, w, &plain)?;
@@ -63,18 +64,18 @@ fn fill(
     alloc: Global,
     store: &mut Store,
     page: &mut Page,
-    w: u32,
+    w: WidgetId,
     node: NodeId,
     text: &Text,
 ) -> Result<(), Memory>
-    requires widget { w < 32 }
-    requires sound { (l : Loop) × IsSound w store.old page.old l }
-    requires own { owns page.old w node ≡ true }
-    ensures done { OnOk result (Changes w store.old store.new page.old page.new
-        (λ s. with_text_node (number page.old w node) text.now (emptied s (number page.old w node)))) }
-    ensures kept { (l : Loop) → HoldsOwn w store.old page.old l → KeepsAll w store.old store.new page.old page.new l }
+    requires sound { (l : Loop) × IsSound w.index store.old page.old l }
+    requires own { owns page.old w.index node ≡ true }
+    ensures done { OnOk result (Changes w.index store.old store.new page.old page.new
+        (λ s. with_text_node (number page.old w.index node) text.now (emptied s (number page.old w.index node)))) }
+    ensures kept { (l : Loop) → HoldsOwn w.index store.old page.old l
+        → KeepsAll w.index store.old store.new page.old page.new l }
 {
-    empty(page, w, node);
+    empty(page, w.index, node);
     if text.units().is_empty() {
         return Ok(());
     }
@@ -87,25 +88,25 @@ fn give(
     alloc: Global,
     store: &mut Store,
     page: &mut Page,
-    w: u32,
+    w: WidgetId,
     node: NodeId,
     given: &Given,
 ) -> Result<(), Memory>
-    requires widget { w < 32 }
-    requires sound { (l : Loop) × IsSound w store.old page.old l }
-    requires own { owns page.old w node ≡ true }
+    requires sound { (l : Loop) × IsSound w.index store.old page.old l }
+    requires own { owns page.old w.index node ≡ true }
     requires name { given.now.name ≡ codes "value" }
-    ensures done { OnOk result (Changes w store.old store.new page.old page.new
-        (λ s. valued given.now.text s (number page.old w node))) }
-    ensures kept { (l : Loop) → HoldsOwn w store.old page.old l → KeepsAll w store.old store.new page.old page.new l }
+    ensures done { OnOk result (Changes w.index store.old store.new page.old page.new
+        (λ s. valued given.now.text s (number page.old w.index node))) }
+    ensures kept { (l : Loop) → HoldsOwn w.index store.old page.old l
+        → KeepsAll w.index store.old store.new page.old page.new l }
 {
     if is_input(node, w, page) {
         let text = given.text.share()?;
-        return set_attr(page, w, node, &given.name, Some(text));
+        return set_attr(page, w.index, node, &given.name, Some(text));
     }
     if is_text_node(node, w, page) {
         let text = given.text.share()?;
-        set_text(page, w, node, text);
+        set_text(page, w.index, node, text);
         return Ok(());
     }
     fill(alloc, store, page, w, node, &given.text)
@@ -116,17 +117,17 @@ pub(crate) fn give_all(
     alloc: Global,
     store: &mut Store,
     page: &mut Page,
-    w: u32,
+    w: WidgetId,
     nodes: &[NodeId],
     given: &Given,
 ) -> Result<(), Memory>
-    requires widget { w < 32 }
-    requires sound { (l : Loop) × IsSound w store.old page.old l }
-    requires own { (n : ℕ) → has_number nodes.now n ≡ true → owns page.old w n ≡ true }
+    requires sound { (l : Loop) × IsSound w.index store.old page.old l }
+    requires own { (n : ℕ) → has_number nodes.now n ≡ true → owns page.old w.index n ≡ true }
     requires name { given.now.name ≡ codes "value" }
-    ensures done { OnOk result (Changes w store.old store.new page.old page.new
-        (λ s. fold (valued given.now.text) s (map (number page.old w) nodes.now))) }
-    ensures kept { (l : Loop) → HoldsOwn w store.old page.old l → KeepsAll w store.old store.new page.old page.new l }
+    ensures done { OnOk result (Changes w.index store.old store.new page.old page.new
+        (λ s. fold (valued given.now.text) s (map (number page.old w.index) nodes.now))) }
+    ensures kept { (l : Loop) → HoldsOwn w.index store.old page.old l
+        → KeepsAll w.index store.old store.new page.old page.new l }
 {
     'each: for node in nodes {
         give(alloc, store, page, w, *node, given)?;

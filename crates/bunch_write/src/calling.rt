@@ -1,6 +1,5 @@
 //! The one call of this crate.
-ghost use Rattle.std.specs.Prelude.{◌≡◌, ◌<◌, [], ◌∷◌, Bool, Option, true, IfOk, map};
-ghost use Rattle.store_cells.specs.Cells.{IsWidget, number_in};
+ghost use Rattle.std.specs.Prelude.{◌≡◌, [], ◌∷◌, Bool, Option, true, IfOk, map};
 ghost use Rattle.widget_meaning.specs.BunchWrites.{write_method};
 ghost use Rattle.widget_meaning.specs.Natives.{run_native};
 ghost use Rattle.js_image.specs.Held.{AreFine, IsFine, IsHeld};
@@ -21,11 +20,11 @@ use bunch_attributes::{
     set_style, set_title,
 };
 use bunch_trees::{Receiver, append, dom_append, explode, set_value};
-use code_units::{Memory, Owner};
+use code_units::Memory;
 use event_loop::Loop;
 use js_image::Fault;
 use js_values::{Meter, NativeOut};
-use native_common::nth;
+use native_common::{WidgetId, nth};
 use native_image::receiver_of;
 use object_store::{CellId, DomNative, NativeId, Store, Value, WriteNative};
 use page_tree::{NodeId, Page};
@@ -43,56 +42,21 @@ pub fn call(
     args: &[Value],
     store: &mut Store,
     meter: &mut Meter,
-    owner: Owner,
+    w: WidgetId,
     page: &mut Page,
     around: &mut Loop,
     bubbled: &mut Option<bool>,
 ) -> Result<NativeOut, Memory>
     requires part { is_part which ≡ true }
-    requires widget { IsWidget owner }
-    requires sound { IsSound (number_in owner) store.old page.old around.old }
-    requires receiver { IsReceiver (number_in owner) store.old.cells this.now }
-    requires args { AreFine (number_in owner) store.old.cells args.now }
-    ensures native { IfOk result (λ o. RefinesAt (number_in owner)
+    requires sound { IsSound w.index store.old page.old around.old }
+    requires receiver { IsReceiver w.index store.old.cells this.now }
+    requires args { AreFine w.index store.old.cells args.now }
+    ensures native { IfOk result (λ o. RefinesAt w.index
         (beside store.old page.old around.old bubbled.old)
         (beside store.new page.new around.new bubbled.new) meter.old meter.new
-        (run_native which (receiver (number_in owner) store.old.cells this.now)
-        (all_seen (number_in owner) store.old.cells args.now)) o) }
-    ensures kept { KeepsAll (number_in owner) store.old store.new page.old page.new around.new }
-{
-    match owner {
-        Owner::Host => unreachable!(),
-        Owner::Widget(w) => {
-            call_of(
-                alloc, which, this, args, store, meter, w, page, around, bubbled,
-            )
-        }
-    }
-}
-
-// The same for the number of the owner.
-fn call_of(
-    alloc: Global,
-    which: NativeId,
-    this: &Value,
-    args: &[Value],
-    store: &mut Store,
-    meter: &mut Meter,
-    w: u32,
-    page: &mut Page,
-    around: &mut Loop,
-    bubbled: &mut Option<bool>,
-) -> Result<NativeOut, Memory>
-    requires part { is_part which ≡ true }
-    requires widget { w < 32 }
-    requires sound { IsSound w store.old page.old around.old }
-    requires receiver { IsReceiver w store.old.cells this.now }
-    requires args { AreFine w store.old.cells args.now }
-    ensures native { IfOk result (λ o. RefinesAt w
-        (beside store.old page.old around.old bubbled.old)
-        (beside store.new page.new around.new bubbled.new) meter.old meter.new
-        (run_native which (receiver w store.old.cells this.now) (all_seen w store.old.cells args.now)) o) }
-    ensures kept { KeepsAll w store.old store.new page.old page.new around.new }
+        (run_native which (receiver w.index store.old.cells this.now)
+        (all_seen w.index store.old.cells args.now)) o) }
+    ensures kept { KeepsAll w.index store.old store.new page.old page.new around.new }
 {
     let absent = Value::Undefined;
     let first = nth(args, 0, &absent);
@@ -139,21 +103,21 @@ fn change(
     second: &Value,
     store: &mut Store,
     meter: &mut Meter,
-    w: u32,
+    w: WidgetId,
     page: &mut Page,
     around: &mut Loop,
 ) -> Result<NativeOut, Memory>
-    requires widget { w < 32 }
-    requires nodes { AreNodes page.old w list.now }
-    requires held { IsHeld w store.old.cells this }
-    requires first { IsFine w store.old.cells first.now }
-    requires second { IsFine w store.old.cells second.now }
-    requires sound { IsSound w store.old page.old around.old }
-    ensures native { (b : Option Bool) → IfOk result (λ o. RefinesAt w
+    requires nodes { AreNodes page.old w.index list.now }
+    requires held { IsHeld w.index store.old.cells this }
+    requires first { IsFine w.index store.old.cells first.now }
+    requires second { IsFine w.index store.old.cells second.now }
+    requires sound { IsSound w.index store.old page.old around.old }
+    ensures native { (b : Option Bool) → IfOk result (λ o. RefinesAt w.index
         (beside store.old page.old around.old b) (beside store.new page.new around.new b) meter.old meter.new
-        (λ d s. write_method method (map (number page.old w) list.now) (seen w store.old.cells (Value.Ref this))
-        (seen w store.old.cells first.now ∷ seen w store.old.cells second.now ∷ []) d s) o) }
-    ensures kept { KeepsAll w store.old store.new page.old page.new around.new }
+        (λ d s. write_method method (map (number page.old w.index) list.now)
+        (seen w.index store.old.cells (Value.Ref this))
+        (seen w.index store.old.cells first.now ∷ seen w.index store.old.cells second.now ∷ []) d s) o) }
+    ensures kept { KeepsAll w.index store.old store.new page.old page.new around.new }
 {
     let bunch = Receiver {
         w,

@@ -1,5 +1,5 @@
 //! `each`, and `bubble`.
-ghost use Rattle.std.specs.Prelude.{◌<◌, ℕ, [], ◌∷◌, Bool, Option, Some, IfOk, map};
+ghost use Rattle.std.specs.Prelude.{ℕ, [], ◌∷◌, Bool, Option, Some, IfOk, map};
 ghost use Rattle.widget_meaning.specs.BunchWrites as means;
 ghost use Rattle.widget_meaning.specs.Dispatch as dispatch;
 ghost use Rattle.permitted_table.specs.declared.native.WriteNative.TheVariants as names;
@@ -19,7 +19,7 @@ use code_units::Memory;
 use event_loop::Loop;
 use js_image::Fault;
 use js_values::{Meter, NativeOut, Plan};
-use native_common::take;
+use native_common::{WidgetId, take};
 use native_image::{Bill, make_bunches, settle, weigh};
 use object_store::{CellId, Store, Value};
 use page_tree::{NodeId, Page};
@@ -32,20 +32,19 @@ fn calls(
     func: CellId,
     this: CellId,
     store: &mut Store,
-    w: u32,
+    w: WidgetId,
     page: &Page,
     around: &Loop,
 ) -> Result<NativeOut, Memory>
-    requires widget { w < 32 }
-    requires nodes { AreNodes page.now w list.now }
-    requires held { IsHeld w store.old.cells this }
-    requires func { IsHeld w store.old.cells func }
-    requires sound { IsSound w store.old page.now around.now }
+    requires nodes { AreNodes page.now w.index list.now }
+    requires held { IsHeld w.index store.old.cells this }
+    requires func { IsHeld w.index store.old.cells func }
+    requires sound { IsSound w.index store.old page.now around.now }
     ensures ends { (b : Option Bool) → IfOk result (λ o.
-        EndsAt w (beside store.old page.now around.now b) (beside store.new page.now around.now b)
-        (each_paid (map (number page.now w) list.now) (seen w store.old.cells (Value.Ref func))
-        (seen w store.old.cells (Value.Ref this))) o) }
-    ensures kept { KeepsAll w store.old store.new page.now page.now around.now }
+        EndsAt w.index (beside store.old page.now around.now b) (beside store.new page.now around.now b)
+        (each_paid (map (number page.now w.index) list.now) (seen w.index store.old.cells (Value.Ref func))
+        (seen w.index store.old.cells (Value.Ref this))) o) }
+    ensures kept { KeepsAll w.index store.old store.new page.now page.now around.now }
 {
     let many = list.len() as u32;
     let bill = Bill {
@@ -77,21 +76,21 @@ pub(crate) fn each(
     this: CellId,
     store: &mut Store,
     meter: &mut Meter,
-    w: u32,
+    w: WidgetId,
     page: &Page,
     around: &Loop,
 ) -> Result<NativeOut, Memory>
-    requires widget { w < 32 }
-    requires nodes { AreNodes page.now w list.now }
-    requires held { IsHeld w store.old.cells this }
-    requires func { IsFine w store.old.cells func.now }
-    requires sound { IsSound w store.old page.now around.now }
+    requires nodes { AreNodes page.now w.index list.now }
+    requires held { IsHeld w.index store.old.cells this }
+    requires func { IsFine w.index store.old.cells func.now }
+    requires sound { IsSound w.index store.old page.now around.now }
     ensures native { (b : Option Bool) → IfOk result (λ o.
-        RefinesAt w (beside store.old page.now around.now b) (beside store.new page.now around.now b) meter.old meter.new
-        (λ d s. means.write_method names.Each (map (number page.now w) list.now)
-        (seen w store.old.cells (Value.Ref this))
-        (seen w store.old.cells func.now ∷ []) d s) o) }
-    ensures kept { KeepsAll w store.old store.new page.now page.now around.now }
+        RefinesAt w.index (beside store.old page.now around.now b)
+        (beside store.new page.now around.now b) meter.old meter.new
+        (λ d s. means.write_method names.Each (map (number page.now w.index) list.now)
+        (seen w.index store.old.cells (Value.Ref this))
+        (seen w.index store.old.cells func.now ∷ []) d s) o) }
+    ensures kept { KeepsAll w.index store.old store.new page.now page.now around.now }
 {
     match function_of(store, func) {
         Some(func) => match take(meter, list.len()) {

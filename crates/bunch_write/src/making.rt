@@ -1,5 +1,5 @@
 //! `dom.tag` and `dom.text`: new nodes, each given in a Bunch.
-ghost use Rattle.std.specs.Prelude.{◌≡◌, ◌<◌, ℕ, List, [], ◌∷◌, Bool, Option, codes, IfOk, length, map, option_copied, option_to_list, sum_by};
+ghost use Rattle.std.specs.Prelude.{◌≡◌, ℕ, List, [], ◌∷◌, Bool, Option, codes, IfOk, length, map, option_copied, option_to_list, sum_by};
 ghost use Rattle.plain_tree.specs.Plains.{unplaced};
 ghost use Rattle.plain_tree.specs.Trees.{ElementOf, End, Node};
 ghost use Rattle.bunch_write.specs.Tags.{may_make};
@@ -20,7 +20,7 @@ use bunch_trees::text_tree;
 use code_units::{Memory, Text};
 use js_image::{Fault, word};
 use js_values::NativeOut;
-use native_common::{either_object, is_object, read_text};
+use native_common::{WidgetId, either_object, is_object, read_text};
 use native_image::give_node;
 use object_store::{Store, Value};
 use page_tree::Page;
@@ -32,15 +32,16 @@ pub(crate) fn dom_text(
     alloc: Global,
     value: &Value,
     store: &mut Store,
-    w: u32,
+    w: WidgetId,
     page: &mut Page,
 ) -> Result<NativeOut, Memory>
-    requires widget { w < 32 }
-    requires sound { (l : Loop) × IsSound w store.old page.old l }
-    ensures native { (l : Loop) (b : Option Bool) (f : Fuel) (this : Option Meant) → IsSound w store.old page.old l
-        → IfOk result (λ o. RefinesAt w (beside store.old page.old l b) (beside store.new page.new l b) f f
-        (λ d s. means.dom_native names.DomText this (seen w store.old.cells value.now ∷ []) d s) o) }
-    ensures kept { (l : Loop) → IsSound w store.old page.old l → KeepsAll w store.old store.new page.old page.new l }
+    requires { (l : Loop) × IsSound w.index store.old page.old l }
+    ensures native { (l : Loop) (b : Option Bool) (f : Fuel) (this : Option Meant)
+        → IsSound w.index store.old page.old l
+        → IfOk result (λ o. RefinesAt w.index (beside store.old page.old l b) (beside store.new page.new l b) f f
+        (λ d s. means.dom_native names.DomText this (seen w.index store.old.cells value.now ∷ []) d s) o) }
+    ensures kept { (l : Loop) → IsSound w.index store.old page.old l
+        → KeepsAll w.index store.old store.new page.old page.new l }
 {
     if is_object(value) {
         return Ok(NativeOut::Throw(Fault::E4));
@@ -118,16 +119,17 @@ pub(crate) fn dom_tag(
     name: &Value,
     kind: &Value,
     store: &mut Store,
-    w: u32,
+    w: WidgetId,
     page: &mut Page,
 ) -> Result<NativeOut, Memory>
-    requires widget { w < 32 }
-    requires sound { (l : Loop) × IsSound w store.old page.old l }
-    ensures native { (l : Loop) (b : Option Bool) (f : Fuel) (this : Option Meant) → IsSound w store.old page.old l
-        → IfOk result (λ o. RefinesAt w (beside store.old page.old l b) (beside store.new page.new l b) f f
+    requires { (l : Loop) × IsSound w.index store.old page.old l }
+    ensures native { (l : Loop) (b : Option Bool) (f : Fuel) (this : Option Meant)
+        → IsSound w.index store.old page.old l
+        → IfOk result (λ o. RefinesAt w.index (beside store.old page.old l b) (beside store.new page.new l b) f f
         (λ d s. means.dom_native names.DomTag this
-        (seen w store.old.cells name.now ∷ seen w store.old.cells kind.now ∷ []) d s) o) }
-    ensures kept { (l : Loop) → IsSound w store.old page.old l → KeepsAll w store.old store.new page.old page.new l }
+        (seen w.index store.old.cells name.now ∷ seen w.index store.old.cells kind.now ∷ []) d s) o) }
+    ensures kept { (l : Loop) → IsSound w.index store.old page.old l
+        → KeepsAll w.index store.old store.new page.old page.new l }
 {
     if either_object(name, kind) {
         return Ok(NativeOut::Throw(Fault::E4));

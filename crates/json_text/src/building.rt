@@ -1,5 +1,5 @@
 //! Values that are made of JSON.
-ghost use Rattle.std.specs.Prelude.{◌≡◌, ◌<◌, ℕ, List, [], IfOk, OnOk};
+ghost use Rattle.std.specs.Prelude.{◌≡◌, ℕ, List, [], IfOk, OnOk};
 ghost use Rattle.js_tree.specs.Forest.{Forest};
 ghost use Rattle.store_cells.specs.Cells.{PlainCell};
 ghost use Rattle.serde_json.specs.Data.{array, object};
@@ -18,18 +18,23 @@ ghost use Rattle.json_text.specs.Building.{Begins, Builds, IsPlainOf};
 use crate::laws::lawful;
 use code_units::{Memory, Text, whole_text};
 use js_image::{Made, Written, make, put};
+use native_common::WidgetId;
 use object_store::{HostEntry, NewCell, Number, Store, Value};
 use serde_json::{Map, Number as JsonNumber, Value as Json};
 use std::alloc::Global;
 
 /// Makes the value of JSON: an object or array first, then its parts in order.
 #[cycle(building)]
-pub(crate) fn build(alloc: Global, store: &mut Store, w: u32, json: &Json) -> Result<Value, Memory>
-    requires { w < 32 }
+pub(crate) fn build(
+    alloc: Global,
+    store: &mut Store,
+    w: WidgetId,
+    json: &Json,
+) -> Result<Value, Memory>
     ensures built { IfOk result (λ v. (fs : List Forest) (r : Rest)
-        → Builds fs r w store.old store.new v (view json.now)) }
-    ensures fine { IfOk result (λ v. IsFine w store.new.cells v) }
-    ensures kept { (fs : List Forest) → Kept fs w store.old store.new }
+        → Builds fs r w.index store.old store.new v (view json.now)) }
+    ensures fine { IfOk result (λ v. IsFine w.index store.new.cells v) }
+    ensures kept { (fs : List Forest) → Kept fs w.index store.old store.new }
 {
     match json {
         Json::Array(items) => build_array(alloc, store, w, items),
@@ -63,12 +68,16 @@ fn whole(x: &JsonNumber) -> Result<i64, Memory>
 
 // An array, and then its elements.
 #[cycle(building)]
-fn build_array(alloc: Global, store: &mut Store, w: u32, items: &Vec<Json>) -> Result<Value, Memory>
-    requires { w < 32 }
+fn build_array(
+    alloc: Global,
+    store: &mut Store,
+    w: WidgetId,
+    items: &Vec<Json>,
+) -> Result<Value, Memory>
     ensures built { IfOk result (λ v. (fs : List Forest) (r : Rest)
-        → Builds fs r w store.old store.new v (array (items_view items.now.items))) }
-    ensures fine { IfOk result (λ v. IsFine w store.new.cells v) }
-    ensures kept { (fs : List Forest) → Kept fs w store.old store.new }
+        → Builds fs r w.index store.old store.new v (array (items_view items.now.items))) }
+    ensures fine { IfOk result (λ v. IsFine w.index store.new.cells v) }
+    ensures kept { (fs : List Forest) → Kept fs w.index store.old store.new }
 {
     let parent = begin_array(alloc, store, w)?;
     let mut at: u32 = 0;
@@ -89,14 +98,13 @@ fn build_array(alloc: Global, store: &mut Store, w: u32, items: &Vec<Json>) -> R
 fn build_object(
     alloc: Global,
     store: &mut Store,
-    w: u32,
+    w: WidgetId,
     members: &Map<String, Json>,
 ) -> Result<Value, Memory>
-    requires { w < 32 }
     ensures built { IfOk result (λ v. (fs : List Forest) (r : Rest)
-        → Builds fs r w store.old store.new v (object (members_view members.now.entries))) }
-    ensures fine { IfOk result (λ v. IsFine w store.new.cells v) }
-    ensures kept { (fs : List Forest) → Kept fs w store.old store.new }
+        → Builds fs r w.index store.old store.new v (object (members_view members.now.entries))) }
+    ensures fine { IfOk result (λ v. IsFine w.index store.new.cells v) }
+    ensures kept { (fs : List Forest) → Kept fs w.index store.old store.new }
 {
     let parent = begin_object(alloc, store, w)?;
     for (key, member) in members.iter() {
@@ -108,27 +116,25 @@ fn build_object(
 }
 
 // An array without elements.
-fn begin_array(alloc: Global, store: &mut Store, w: u32) -> Result<Value, Memory>
-    requires { w < 32 }
+fn begin_array(alloc: Global, store: &mut Store, w: WidgetId) -> Result<Value, Memory>
     ensures begun { IfOk result (λ v. (fs : List Forest) (r : Rest)
-        → Begins fs r w store.old store.new v (new_array 0 [])) }
-    ensures fine { IfOk result (λ v. IsFine w store.new.cells v) }
-    ensures kept { (fs : List Forest) → Kept fs w store.old store.new }
+        → Begins fs r w.index store.old store.new v (new_array 0 [])) }
+    ensures fine { IfOk result (λ v. IsFine w.index store.new.cells v) }
+    ensures kept { (fs : List Forest) → Kept fs w.index store.old store.new }
 {
-    made(make(alloc, store, w, NewCell::Array)?)
+    made(make(alloc, store, w.index, NewCell::Array)?)
 }
 
 // An object without members.
-fn begin_object(alloc: Global, store: &mut Store, w: u32) -> Result<Value, Memory>
-    requires { w < 32 }
+fn begin_object(alloc: Global, store: &mut Store, w: WidgetId) -> Result<Value, Memory>
     ensures begun { IfOk result (λ v. (fs : List Forest) (r : Rest)
-        → Begins fs r w store.old store.new v (plain_object [])) }
-    ensures fine { IfOk result (λ v. IsFine w store.new.cells v) }
-    ensures kept { (fs : List Forest) → Kept fs w store.old store.new }
+        → Begins fs r w.index store.old store.new v (plain_object [])) }
+    ensures fine { IfOk result (λ v. IsFine w.index store.new.cells v) }
+    ensures kept { (fs : List Forest) → Kept fs w.index store.old store.new }
 {
     lawful(store);
     let proto = store.host(HostEntry::ObjectPrototype);
-    made(make(alloc, store, w, NewCell::Object(proto))?)
+    made(make(alloc, store, w.index, NewCell::Object(proto))?)
 }
 
 // The value of what was made; that it can be paid is known before.
@@ -146,21 +152,20 @@ fn made(made: Made) -> Result<Value, Memory>
 // One more property; that it can be paid is known before.
 fn put_next(
     store: &mut Store,
-    w: u32,
+    w: WidgetId,
     parent: &Value,
     name: &Text,
     value: Value,
 ) -> Result<(), Memory>
-    requires widget { w < 32 }
-    requires parent { IsFine w store.old.cells parent.now }
-    requires value { IsFine w store.old.cells value }
+    requires parent { IsFine w.index store.old.cells parent.now }
+    requires value { IsFine w.index store.old.cells value }
     ensures put { OnOk result ((fs : List Forest) (r : Rest)
-        → properties.put (seen w store.old.cells parent.now) name.now (seen w store.old.cells value)
-        (image fs r w store.old) (give meaning.Undefined)
-        ≡ give meaning.Undefined (image fs r w store.new)) }
-    ensures kept { (fs : List Forest) → Kept fs w store.old store.new }
+        → properties.put (seen w.index store.old.cells parent.now) name.now (seen w.index store.old.cells value)
+        (image fs r w.index store.old) (give meaning.Undefined)
+        ≡ give meaning.Undefined (image fs r w.index store.new)) }
+    ensures kept { (fs : List Forest) → Kept fs w.index store.old store.new }
 {
-    match put(store, w, parent, name, value)? {
+    match put(store, w.index, parent, name, value)? {
         Written::Done => Ok(()),
         _ => Err(Memory),
     }

@@ -1,5 +1,5 @@
 //! The value that is read in a text.
-ghost use Rattle.std.specs.Prelude.{◌≡◌, ◌<◌, ℕ, List, IfErr, IfOk, IsUtf8, OnErr, OnOk};
+ghost use Rattle.std.specs.Prelude.{◌≡◌, ℕ, List, IfErr, IfOk, IsUtf8, OnErr, OnOk};
 ghost use Rattle.js_tree.specs.Forest.{Forest};
 ghost use Rattle.serde_json.specs.View.{view};
 ghost use Rattle.widget_meaning.specs.Costs as costs;
@@ -22,7 +22,7 @@ use js_image::{Fault, Paid, StopCause, pay_units};
 use js_values::{Meter, NativeOut};
 use json_judge::Verdict;
 use json_shapes::{ShapeFault, read_json};
-use native_common::{take, text_len};
+use native_common::{WidgetId, take, text_len};
 use object_store::{CELL_LIMIT, SLOT_LIMIT, Store, UNIT_LIMIT, Value};
 use serde_json::Value as Json;
 use std::alloc::Global;
@@ -32,13 +32,12 @@ pub fn from_json(
     alloc: Global,
     store: &mut Store,
     meter: &mut Meter,
-    w: u32,
+    w: WidgetId,
     v: &Value,
 ) -> Result<NativeOut, Memory>
-    requires { w < 32 }
-    ensures native { IfOk result (λ o. Refines w store.old store.new meter.old meter.new
-        (λ d s. means.from_json (seen w store.old.cells v.now) s) o) }
-    ensures memory { OnErr result ((fs : List Forest) → Kept fs w store.old store.new) }
+    ensures native { IfOk result (λ o. Refines w.index store.old store.new meter.old meter.new
+        (λ d s. means.from_json (seen w.index store.old.cells v.now) s) o) }
+    ensures memory { OnErr result ((fs : List Forest) → Kept fs w.index store.old store.new) }
 {
     let Value::Text(text) = v else {
         return Ok(NativeOut::Throw(Fault::E4));
@@ -96,14 +95,14 @@ fn read_value(
     alloc: Global,
     store: &mut Store,
     meter: &mut Meter,
-    w: u32,
+    w: WidgetId,
     extra: usize,
     json: &Json,
 ) -> Result<NativeOut, Memory>
-    requires { w < 32 }
-    ensures native { IfOk result (λ o. (n : ℕ) → extra ≡ counted n → Refines w store.old store.new meter.old meter.new
+    ensures native { IfOk result (λ o. (n : ℕ) → extra ≡ counted n
+        → Refines w.index store.old store.new meter.old meter.new
         (λ d s. read_plan n (view json.now) s) o) }
-    ensures memory { OnErr result ((fs : List Forest) → Kept fs w store.old store.new) }
+    ensures memory { OnErr result ((fs : List Forest) → Kept fs w.index store.old store.new) }
 {
     let mut sum = NO_WEIGHT;
     weigh(alloc, json, &mut sum)?;
@@ -120,14 +119,13 @@ fn read_value(
 fn bear(
     alloc: Global,
     store: &mut Store,
-    w: u32,
+    w: WidgetId,
     sum: &Weight,
     json: &Json,
 ) -> Result<NativeOut, Memory>
-    requires widget { w < 32 }
-    requires sum { sum.now ≡ weight (view json.now) }
-    ensures ends { IfOk result (λ o. Ends w store.old store.new (λ d s. born_plan (view json.now) s) o) }
-    ensures memory { OnErr result ((fs : List Forest) → Kept fs w store.old store.new) }
+    requires { sum.now ≡ weight (view json.now) }
+    ensures ends { IfOk result (λ o. Ends w.index store.old store.new (λ d s. born_plan (view json.now) s) o) }
+    ensures memory { OnErr result ((fs : List Forest) → Kept fs w.index store.old store.new) }
 {
     if !sum.whole {
         return Ok(NativeOut::Stop(StopCause::Number));
@@ -146,16 +144,16 @@ fn bear(
 
 // The units of a cost that a widget can pay, or the stop: units, cells and slots are judged in this
 // order.
-fn afford(store: &Store, w: u32, sum: &Weight) -> Result<u32, StopCause>
-    requires { w < 32 }
+fn afford(store: &Store, w: WidgetId, sum: &Weight) -> Result<u32, StopCause>
     ensures stop { IfErr result (λ c. (fs : List Forest) (r : Rest) (k : State → Plan)
-        → costs.pay (weight_cost sum.now) (image fs r w store.now) k ≡ Halt (meant_cause c) (image fs r w store.now)) }
+        → costs.pay (weight_cost sum.now) (image fs r w.index store.now) k
+        ≡ Halt (meant_cause c) (image fs r w.index store.now)) }
     ensures units { IfOk result (λ n. (n ≡ sum.now.units) × ((fs : List Forest) (r : Rest) (k : State → Plan)
-        → costs.pay (weight_cost sum.now) (image fs r w store.now) k
-        ≡ k (with_counts (image fs r w store.now)
-        (costs.sum (image fs r w store.now).own.counts (weight_cost sum.now))))) }
+        → costs.pay (weight_cost sum.now) (image fs r w.index store.now) k
+        ≡ k (with_counts (image fs r w.index store.now)
+        (costs.sum (image fs r w.index store.now).own.counts (weight_cost sum.now))))) }
 {
-    let paid = store.counts(Owner::Widget(w));
+    let paid = store.counts(Owner::Widget(w.index));
     if sum.units > (UNIT_LIMIT - paid.units) as usize {
         return Err(StopCause::Units);
     }
@@ -169,13 +167,12 @@ fn afford(store: &Store, w: u32, sum: &Weight) -> Result<u32, StopCause>
 }
 
 // Units are paid; that they can be is known before.
-fn pay(store: &mut Store, w: u32, units: u32) -> Result<(), Memory>
-    requires { w < 32 }
+fn pay(store: &mut Store, w: WidgetId, units: u32) -> Result<(), Memory>
     ensures paid { OnOk result ((fs : List Forest) (r : Rest) (k : State → Plan)
-        → costs.pay (units_cost units) (image fs r w store.old) k ≡ k (image fs r w store.new)) }
-    ensures kept { (fs : List Forest) → Kept fs w store.old store.new }
+        → costs.pay (units_cost units) (image fs r w.index store.old) k ≡ k (image fs r w.index store.new)) }
+    ensures kept { (fs : List Forest) → Kept fs w.index store.old store.new }
 {
-    match pay_units(store, w, units) {
+    match pay_units(store, w.index, units) {
         Paid::Done => Ok(()),
         Paid::Stop(_) => Err(Memory),
     }

@@ -26,7 +26,7 @@ use crate::steps::{Step, push, push_word};
 use code_units::{Memory, Owner, Text, whole_text};
 use js_image::{Fault, StopCause, array_length, element};
 use js_values::{Meter, NativeOut};
-use native_common::{charged, make_text, take, text_len};
+use native_common::{WidgetId, charged, make_text, take, text_len};
 use object_store::{CellId, CellKind, Number, Store, Value};
 use std::alloc::Global;
 
@@ -44,14 +44,13 @@ pub fn to_json(
     alloc: Global,
     store: &mut Store,
     meter: &mut Meter,
-    w: u32,
+    w: WidgetId,
     v: &Value,
 ) -> Result<NativeOut, Memory>
-    requires widget { w < 32 }
-    requires value { IsFine w store.old.cells v.now }
-    ensures native { IfOk result (λ o. RefinesConfined w store.old store.new meter.old meter.new
-        (λ d s. means.to_json (seen w store.old.cells v.now) s) o) }
-    ensures memory { OnErr result ((fs : List Forest) → Kept fs w store.old store.new) }
+    requires { IsFine w.index store.old.cells v.now }
+    ensures native { IfOk result (λ o. RefinesConfined w.index store.old store.new meter.old meter.new
+        (λ d s. means.to_json (seen w.index store.old.cells v.now) s) o) }
+    ensures memory { OnErr result ((fs : List Forest) → Kept fs w.index store.old store.new) }
 {
     let mut out = Vec::new(alloc);
     match write_value(alloc, store, v, DEEPEST, &mut out)? {
@@ -62,9 +61,8 @@ pub fn to_json(
 }
 
 // The extra is the units of the text, and so is the cost.
-fn give_json(store: &mut Store, meter: &mut Meter, w: u32, text: Text) -> NativeOut
-    requires { w < 32 }
-    ensures { Refines w store.old store.new meter.old meter.new (λ d s. means.give_json (Wrote text) s) result }
+fn give_json(store: &mut Store, meter: &mut Meter, w: WidgetId, text: Text) -> NativeOut
+    ensures { Refines w.index store.old store.new meter.old meter.new (λ d s. means.give_json (Wrote text) s) result }
 {
     match take(meter, text_len(&text)) {
         Err(_) => NativeOut::OutOfFuel,

@@ -1,5 +1,5 @@
 //! Arrays of the running widget: receivers, elements, and the charge of a native.
-ghost use Rattle.std.specs.Prelude.{◌≡◌, ◌++◌, ◌<◌, ℕ, List, IfOk, IfSome, OnOk, length, nat_eq, pos, unwrap_or};
+ghost use Rattle.std.specs.Prelude.{◌≡◌, ◌++◌, ℕ, List, IfOk, IfSome, OnOk, length, nat_eq, pos, unwrap_or};
 ghost use Rattle.std.specs.List.{list_any};
 ghost use Rattle.js_tree.specs.Forest.{Forest};
 ghost use Rattle.store_cells.specs.Cells.{Cells};
@@ -22,7 +22,7 @@ ghost use Rattle.list_methods.specs.Arrays.{IsArray, number, on_own};
 use code_units::Memory;
 use js_image::{array_length, elements, has_objects};
 use js_values::{Meter, NativeOut};
-use native_common::take;
+use native_common::{WidgetId, take};
 use object_store::{CellId, Number, Store, Value};
 use std::alloc::Global;
 
@@ -34,12 +34,12 @@ pub struct OwnArray {
 }
 
 /// The Array that a receiver is.
-pub(crate) fn array_of(store: &Store, w: u32, this: &Value) -> Option<OwnArray>
-    requires { IsReceiver w store.now.cells this.now }
-    ensures array { IfSome result (λ a. IsArray w store.now a) }
+pub(crate) fn array_of(store: &Store, w: WidgetId, this: &Value) -> Option<OwnArray>
+    requires { IsReceiver w.index store.now.cells this.now }
+    ensures array { IfSome result (λ a. IsArray w.index store.now a) }
     ensures plan { (fs : List Forest) (r : Rest) (k : ℕ → ℕ → Plan)
-        → forms.on_array (receiver w store.now.cells this.now) (image fs r w store.now) k
-        ≡ on_own w store.now result (image fs r w store.now) k }
+        → forms.on_array (receiver w.index store.now.cells this.now) (image fs r w.index store.now) k
+        ≡ on_own w.index store.now result (image fs r w.index store.now) k }
 {
     match cell_of(this) {
         Some(cell) => array_at(store, w, cell),
@@ -58,12 +58,12 @@ pub(crate) fn cell_of(v: &Value) -> Option<CellId>
 }
 
 // The same for a cell.
-fn array_at(store: &Store, w: u32, cell: CellId) -> Option<OwnArray>
-    requires { IsReceiver w store.now.cells (Value.Ref cell) }
-    ensures array { IfSome result (λ a. IsArray w store.now a) }
+fn array_at(store: &Store, w: WidgetId, cell: CellId) -> Option<OwnArray>
+    requires { IsReceiver w.index store.now.cells (Value.Ref cell) }
+    ensures array { IfSome result (λ a. IsArray w.index store.now a) }
     ensures plan { (fs : List Forest) (r : Rest) (k : ℕ → ℕ → Plan)
-        → forms.on_array (receiver w store.now.cells (Value.Ref cell)) (image fs r w store.now) k
-        ≡ on_own w store.now result (image fs r w store.now) k }
+        → forms.on_array (receiver w.index store.now.cells (Value.Ref cell)) (image fs r w.index store.now) k
+        ≡ on_own w.index store.now result (image fs r w.index store.now) k }
 {
     if is_global(store, cell) {
         return None;
@@ -84,14 +84,14 @@ fn is_global(store: &Store, cell: CellId) -> bool
 pub(crate) fn values_of(
     alloc: Global,
     store: &Store,
-    w: u32,
+    w: WidgetId,
     array: OwnArray,
 ) -> Result<Vec<Value>, Memory>
-    requires array { IsArray w store.now array }
-    requires confined { (fs : List Forest) × IsConfined fs w store.now }
-    ensures seen { IfOk result (λ vs. (fs : List Forest) (r : Rest) → all_seen w store.now.cells vs.items
-        ≡ forms.elements (image fs r w store.now) (number w store.now array) array.len) }
-    ensures fine { IfOk result (λ vs. AreFine w store.now.cells vs.items) }
+    requires array { IsArray w.index store.now array }
+    requires confined { (fs : List Forest) × IsConfined fs w.index store.now }
+    ensures seen { IfOk result (λ vs. (fs : List Forest) (r : Rest) → all_seen w.index store.now.cells vs.items
+        ≡ forms.elements (image fs r w.index store.now) (number w.index store.now array) array.len) }
+    ensures fine { IfOk result (λ vs. AreFine w.index store.now.cells vs.items) }
     ensures len { IfOk result (λ vs. length vs.items ≡ array.len) }
 {
     let base = Value::Ref(array.cell);
@@ -113,10 +113,11 @@ fn len_of(store: &Store, v: &Value) -> usize
 
 /// The charge of most of these natives without the units made, as far as a length is counted: the lengths of the Array
 /// and of Array arguments, and the number of arguments.
-pub(crate) fn extra(store: &Store, w: u32, len: u32, args: &[Value]) -> usize
-    requires { AreFine w store.now.cells args.now }
+pub(crate) fn extra(store: &Store, w: WidgetId, len: u32, args: &[Value]) -> usize
+    requires { AreFine w.index store.now.cells args.now }
     ensures { (fs : List Forest) (r : Rest)
-        → result ≡ counted (changes.list_extra len (all_seen w store.now.cells args.now) (image fs r w store.now)) }
+        → result ≡ counted (changes.list_extra len (all_seen w.index store.now.cells args.now)
+        (image fs r w.index store.now)) }
 {
     let mut sum = counted_len(len);
     for v in args {
@@ -176,11 +177,11 @@ pub(crate) fn number_value(n: u32) -> Value
 }
 
 /// Whether an element is an object.
-pub(crate) fn holds_objects(store: &Store, w: u32, array: OwnArray) -> bool
-    requires { IsArray w store.now array }
+pub(crate) fn holds_objects(store: &Store, w: WidgetId, array: OwnArray) -> bool
+    requires { IsArray w.index store.now array }
     ensures { (fs : List Forest) (r : Rest)
         → result ≡ list_any meaning.is_object
-        (forms.elements (image fs r w store.now) (number w store.now array) array.len) }
+        (forms.elements (image fs r w.index store.now) (number w.index store.now array) array.len) }
 {
     let base = Value::Ref(array.cell);
     has_objects(store, &base, array.len)

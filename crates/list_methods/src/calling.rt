@@ -1,7 +1,6 @@
 //! The call of a native.
-ghost use Rattle.std.specs.Prelude.{◌≡◌, ◌<◌, List, true, IfOk, OnErr};
+ghost use Rattle.std.specs.Prelude.{◌≡◌, List, true, IfOk, OnErr};
 ghost use Rattle.js_tree.specs.Forest.{Forest};
-ghost use Rattle.store_cells.specs.Cells.{IsWidget, number_in};
 ghost use Rattle.widget_meaning.specs.ListNatives.{list_method};
 ghost use Rattle.widget_meaning.specs.Natives.{run_native};
 ghost use Rattle.js_image.specs.Image.{all_seen};
@@ -19,13 +18,14 @@ use crate::over::{Calls, over};
 use crate::sorting::sort;
 use crate::splicing::splice;
 use crate::turning::{reverse, shift, unshift};
-use code_units::{Memory, Owner};
+use code_units::Memory;
 use js_values::{Fault, Keep, Meter, NativeOut};
+use native_common::WidgetId;
 use object_store::{ListNative, NativeId, Store, Value};
 use std::alloc::Global;
 
-/// Calls a native of arrays, or the `toString` of arrays, for a widget as owner: `this` is the Global
-/// cell for a plain call. The answer is the row of docs/LANGUAGE.md, "Natives"; the unit of the native
+/// Calls a native of arrays, or the `toString` of arrays, for a widget: `this` is the Global cell for a
+/// plain call. The answer is the row of docs/LANGUAGE.md, "Natives"; the unit of the native
 /// was taken before. What is charged and paid comes before any change, and where fuel is wanting
 /// nothing changes. After `Memory` the widget keeps what stands in `Kept`, and nothing more is said.
 pub fn call(
@@ -35,42 +35,16 @@ pub fn call(
     args: &[Value],
     store: &mut Store,
     meter: &mut Meter,
-    owner: Owner,
+    w: WidgetId,
 ) -> Result<NativeOut, Memory>
     requires part { is_part which ≡ true }
-    requires widget { IsWidget owner }
-    requires confined { (fs : List Forest) × IsConfined fs (number_in owner) store.old }
-    requires receiver { IsReceiver (number_in owner) store.old.cells this.now }
-    requires args { AreFine (number_in owner) store.old.cells args.now }
-    ensures native { IfOk result (λ o. Refines (number_in owner) store.old store.new meter.old meter.new
-        (run_native which (receiver (number_in owner) store.old.cells this.now)
-        (all_seen (number_in owner) store.old.cells args.now)) o) }
-    ensures memory { OnErr result ((fs : List Forest) → Kept fs (number_in owner) store.old store.new) }
-{
-    let Owner::Widget(w) = owner else {
-        unreachable!()
-    };
-    of_widget(alloc, which, this, args, store, meter, w)
-}
-
-// The same for a widget by its number.
-fn of_widget(
-    alloc: Global,
-    which: NativeId,
-    this: &Value,
-    args: &[Value],
-    store: &mut Store,
-    meter: &mut Meter,
-    w: u32,
-) -> Result<NativeOut, Memory>
-    requires part { is_part which ≡ true }
-    requires widget { w < 32 }
-    requires confined { (fs : List Forest) × IsConfined fs w store.old }
-    requires receiver { IsReceiver w store.old.cells this.now }
-    requires args { AreFine w store.old.cells args.now }
-    ensures native { IfOk result (λ o. Refines w store.old store.new meter.old meter.new
-        (run_native which (receiver w store.old.cells this.now) (all_seen w store.old.cells args.now)) o) }
-    ensures memory { OnErr result ((fs : List Forest) → Kept fs w store.old store.new) }
+    requires confined { (fs : List Forest) × IsConfined fs w.index store.old }
+    requires receiver { IsReceiver w.index store.old.cells this.now }
+    requires args { AreFine w.index store.old.cells args.now }
+    ensures native { IfOk result (λ o. Refines w.index store.old store.new meter.old meter.new
+        (run_native which (receiver w.index store.old.cells this.now)
+        (all_seen w.index store.old.cells args.now)) o) }
+    ensures memory { OnErr result ((fs : List Forest) → Kept fs w.index store.old store.new) }
 {
     let Some(array) = array_of(store, w, this) else {
         return Ok(NativeOut::Throw(Fault::E3));
@@ -90,15 +64,15 @@ fn of_array(
     args: &[Value],
     store: &mut Store,
     meter: &mut Meter,
-    w: u32,
+    w: WidgetId,
 ) -> Result<NativeOut, Memory>
-    requires widget { w < 32 }
-    requires array { IsArray w store.old array }
-    requires confined { (fs : List Forest) × IsConfined fs w store.old }
-    requires args { AreFine w store.old.cells args.now }
-    ensures native { IfOk result (λ o. Refines w store.old store.new meter.old meter.new
-        (λ d s. list_method method (number w store.old array) array.len (all_seen w store.old.cells args.now) d s) o) }
-    ensures memory { OnErr result ((fs : List Forest) → Kept fs w store.old store.new) }
+    requires array { IsArray w.index store.old array }
+    requires confined { (fs : List Forest) × IsConfined fs w.index store.old }
+    requires args { AreFine w.index store.old.cells args.now }
+    ensures native { IfOk result (λ o. Refines w.index store.old store.new meter.old meter.new
+        (λ d s. list_method method (number w.index store.old array) array.len
+        (all_seen w.index store.old.cells args.now) d s) o) }
+    ensures memory { OnErr result ((fs : List Forest) → Kept fs w.index store.old store.new) }
 {
     match method {
         ListNative::Join => join(alloc, array, args, store, meter, w),

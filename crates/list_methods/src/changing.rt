@@ -11,6 +11,7 @@ ghost use Rattle.list_methods.specs.Arrays.{IsArray, number};
 use crate::array::{OwnArray, number_value};
 use code_units::Memory;
 use js_image::{Written, push_paid, put, word};
+use native_common::WidgetId;
 use object_store::{Store, Value};
 use std::alloc::Global;
 
@@ -20,20 +21,27 @@ pub(crate) fn push_all(
     array: OwnArray,
     values: &[Value],
     store: &mut Store,
-    w: u32,
+    w: WidgetId,
 ) -> Result<(), Memory>
-    requires array { IsArray w store.old array }
-    requires values { AreFine w store.old.cells values.now }
+    requires array { IsArray w.index store.old array }
+    requires values { AreFine w.index store.old.cells values.now }
     requires few { array.len + length values.now ≤ 4294967295 }
-    ensures done { OnOk result ((fs : List Forest) (r : Rest) → image fs r w store.new
-        ≡ state.with_cell (image fs r w store.old) (number w store.old array)
-        (changes.pushed (state.cell_at (image fs r w store.old) (number w store.old array)) array.len
-        (all_seen w store.old.cells values.now))) }
-    ensures kept { (fs : List Forest) → Kept fs w store.old store.new }
+    ensures done { OnOk result ((fs : List Forest) (r : Rest) → image fs r w.index store.new
+        ≡ state.with_cell (image fs r w.index store.old) (number w.index store.old array)
+        (changes.pushed (state.cell_at (image fs r w.index store.old) (number w.index store.old array)) array.len
+        (all_seen w.index store.old.cells values.now))) }
+    ensures kept { (fs : List Forest) → Kept fs w.index store.old store.new }
 {
     for at in 0..values.len() {
         let value = value_at(values, at)?;
-        push_paid(alloc, store, w, array.cell, array.len + at as u32, value)?;
+        push_paid(
+            alloc,
+            store,
+            w.index,
+            array.cell,
+            array.len + at as u32,
+            value,
+        )?;
     }
     Ok(())
 }
@@ -53,19 +61,18 @@ pub(crate) fn shorten(
     array: OwnArray,
     len: u32,
     store: &mut Store,
-    w: u32,
+    w: WidgetId,
 ) -> Result<(), Memory>
-    requires widget { w < 32 }
-    requires array { IsArray w store.old array }
-    ensures done { OnOk result ((fs : List Forest) (r : Rest) → image fs r w store.new
-        ≡ state.with_cell (image fs r w store.old) (number w store.old array)
-        (properties.cut_to (state.cell_at (image fs r w store.old) (number w store.old array)) len)) }
-    ensures kept { (fs : List Forest) → Kept fs w store.old store.new }
+    requires { IsArray w.index store.old array }
+    ensures done { OnOk result ((fs : List Forest) (r : Rest) → image fs r w.index store.new
+        ≡ state.with_cell (image fs r w.index store.old) (number w.index store.old array)
+        (properties.cut_to (state.cell_at (image fs r w.index store.old) (number w.index store.old array)) len)) }
+    ensures kept { (fs : List Forest) → Kept fs w.index store.old store.new }
 {
     let base = Value::Ref(array.cell);
     let name = word(alloc, b"length")?;
     let value = number_value(len);
-    let written = put(store, w, &base, &name, value)?;
+    let written = put(store, w.index, &base, &name, value)?;
     match written {
         Written::Done => Ok(()),
         Written::Throw(_) => Err(Memory),

@@ -1,5 +1,5 @@
 //! `concat` and `slice`.
-ghost use Rattle.std.specs.Prelude.{◌≡◌, ◌++◌, ◌<◌, ℕ, List, IfOk, OnErr, OnOk, slice_range, ◌≤◌, length, pos};
+ghost use Rattle.std.specs.Prelude.{◌≡◌, ◌++◌, ℕ, List, IfOk, OnErr, OnOk, slice_range, ◌≤◌, length, pos};
 ghost use Rattle.std.specs.List.{flat_map};
 ghost use Rattle.js_tree.specs.Forest.{Forest};
 ghost use Rattle.store_cells.specs.Cells.{PlainCell};
@@ -18,7 +18,7 @@ use crate::array::{OwnArray, charged, extra, share_all, values_of, whole};
 use code_units::Memory;
 use js_image::{StopCause, array_length, elements};
 use js_values::{Fault, Meter, NativeOut};
-use native_common::{either_object, from_end, give_array, nth, number_or, take};
+use native_common::{WidgetId, either_object, from_end, give_array, nth, number_or, take};
 use object_store::{Store, Value};
 use std::alloc::Global;
 
@@ -29,15 +29,15 @@ pub(crate) fn concat(
     args: &[Value],
     store: &mut Store,
     meter: &mut Meter,
-    w: u32,
+    w: WidgetId,
 ) -> Result<NativeOut, Memory>
-    requires widget { w < 32 }
-    requires array { IsArray w store.old array }
-    requires confined { (fs : List Forest) × IsConfined fs w store.old }
-    requires args { AreFine w store.old.cells args.now }
-    ensures native { IfOk result (λ o. Refines w store.old store.new meter.old meter.new
-        (λ d s. means.list_concat (number w store.old array) array.len (all_seen w store.old.cells args.now) s) o) }
-    ensures memory { OnErr result ((fs : List Forest) → Kept fs w store.old store.new) }
+    requires array { IsArray w.index store.old array }
+    requires confined { (fs : List Forest) × IsConfined fs w.index store.old }
+    requires args { AreFine w.index store.old.cells args.now }
+    ensures native { IfOk result (λ o. Refines w.index store.old store.new meter.old meter.new
+        (λ d s. means.list_concat (number w.index store.old array) array.len
+        (all_seen w.index store.old.cells args.now) s) o) }
+    ensures memory { OnErr result ((fs : List Forest) → Kept fs w.index store.old store.new) }
 {
     let asked = extra(store, w, array.len, args);
     match take(meter, asked) {
@@ -52,16 +52,15 @@ fn all_elements(
     array: OwnArray,
     args: &[Value],
     store: &mut Store,
-    w: u32,
+    w: WidgetId,
 ) -> Result<NativeOut, Memory>
-    requires widget { w < 32 }
-    requires array { IsArray w store.old array }
-    requires confined { (fs : List Forest) × IsConfined fs w store.old }
-    requires args { AreFine w store.old.cells args.now }
-    ensures native { IfOk result (λ o. Ends w store.old store.new
-        (λ d s. forms.make_array (forms.elements s (number w store.old array) array.len ++ flat_map
-        (changes.array_elements s) (all_seen w store.old.cells args.now)) 0 s costs.give) o) }
-    ensures memory { OnErr result ((fs : List Forest) → Kept fs w store.old store.new) }
+    requires array { IsArray w.index store.old array }
+    requires confined { (fs : List Forest) × IsConfined fs w.index store.old }
+    requires args { AreFine w.index store.old.cells args.now }
+    ensures native { IfOk result (λ o. Ends w.index store.old store.new
+        (λ d s. forms.make_array (forms.elements s (number w.index store.old array) array.len ++ flat_map
+        (changes.array_elements s) (all_seen w.index store.old.cells args.now)) 0 s costs.give) o) }
+    ensures memory { OnErr result ((fs : List Forest) → Kept fs w.index store.old store.new) }
 {
     let mut values = values_of(alloc, store, w, array)?;
     push_arguments(alloc, store, w, &mut values, args)?;
@@ -71,17 +70,18 @@ fn all_elements(
 fn push_arguments(
     alloc: Global,
     store: &Store,
-    w: u32,
+    w: WidgetId,
     values: &mut Vec<Value>,
     args: &[Value],
 ) -> Result<(), Memory>
-    requires confined { (fs : List Forest) × IsConfined fs w store.now }
-    requires args { AreFine w store.now.cells args.now }
-    requires values { AreFine w store.now.cells values.old.items }
-    ensures more { OnOk result ((fs : List Forest) (r : Rest) → all_seen w store.now.cells values.new.items
-        ≡ all_seen w store.now.cells values.old.items ++ flat_map (changes.array_elements (image fs r w store.now))
-        (all_seen w store.now.cells args.now)) }
-    ensures fine { OnOk result (AreFine w store.now.cells values.new.items) }
+    requires confined { (fs : List Forest) × IsConfined fs w.index store.now }
+    requires args { AreFine w.index store.now.cells args.now }
+    requires values { AreFine w.index store.now.cells values.old.items }
+    ensures more { OnOk result ((fs : List Forest) (r : Rest) → all_seen w.index store.now.cells values.new.items
+        ≡ all_seen w.index store.now.cells values.old.items ++ flat_map
+        (changes.array_elements (image fs r w.index store.now))
+        (all_seen w.index store.now.cells args.now)) }
+    ensures fine { OnOk result (AreFine w.index store.now.cells values.new.items) }
 {
     for v in args {
         push_argument(alloc, store, w, values, v)?;
@@ -93,17 +93,17 @@ fn push_arguments(
 fn push_argument(
     alloc: Global,
     store: &Store,
-    w: u32,
+    w: WidgetId,
     values: &mut Vec<Value>,
     v: &Value,
 ) -> Result<(), Memory>
-    requires confined { (fs : List Forest) × IsConfined fs w store.now }
-    requires arg { IsFine w store.now.cells v.now }
-    requires values { AreFine w store.now.cells values.old.items }
-    ensures more { OnOk result ((fs : List Forest) (r : Rest) → all_seen w store.now.cells values.new.items
-        ≡ all_seen w store.now.cells values.old.items ++ changes.array_elements (image fs r w store.now)
-        (seen w store.now.cells v.now)) }
-    ensures fine { OnOk result (AreFine w store.now.cells values.new.items) }
+    requires confined { (fs : List Forest) × IsConfined fs w.index store.now }
+    requires arg { IsFine w.index store.now.cells v.now }
+    requires values { AreFine w.index store.now.cells values.old.items }
+    ensures more { OnOk result ((fs : List Forest) (r : Rest) → all_seen w.index store.now.cells values.new.items
+        ≡ all_seen w.index store.now.cells values.old.items ++ changes.array_elements (image fs r w.index store.now)
+        (seen w.index store.now.cells v.now)) }
+    ensures fine { OnOk result (AreFine w.index store.now.cells values.new.items) }
 {
     let Some(len) = array_length(store, v) else {
         return Ok(values.push(v.share()?)?);
@@ -119,17 +119,17 @@ pub(crate) fn slice(
     args: &[Value],
     store: &mut Store,
     meter: &mut Meter,
-    w: u32,
+    w: WidgetId,
 ) -> Result<NativeOut, Memory>
-    requires widget { w < 32 }
-    requires array { IsArray w store.old array }
-    requires confined { (fs : List Forest) × IsConfined fs w store.old }
-    requires args { AreFine w store.old.cells args.now }
-    ensures native { IfOk result (λ o. Refines w store.old store.new meter.old meter.new
-        (λ d s. means.list_slice (number w store.old array) array.len
-        (meaning.nth 0 (all_seen w store.old.cells args.now)) (meaning.nth 1 (all_seen w store.old.cells args.now))
-        (changes.list_extra array.len (all_seen w store.old.cells args.now) s) s) o) }
-    ensures memory { OnErr result ((fs : List Forest) → Kept fs w store.old store.new) }
+    requires array { IsArray w.index store.old array }
+    requires confined { (fs : List Forest) × IsConfined fs w.index store.old }
+    requires args { AreFine w.index store.old.cells args.now }
+    ensures native { IfOk result (λ o. Refines w.index store.old store.new meter.old meter.new
+        (λ d s. means.list_slice (number w.index store.old array) array.len
+        (meaning.nth 0 (all_seen w.index store.old.cells args.now))
+        (meaning.nth 1 (all_seen w.index store.old.cells args.now))
+        (changes.list_extra array.len (all_seen w.index store.old.cells args.now) s) s) o) }
+    ensures memory { OnErr result ((fs : List Forest) → Kept fs w.index store.old store.new) }
 {
     let absent = Value::Undefined;
     let from = nth(args, 0, &absent);
@@ -168,16 +168,15 @@ fn between(
     from: usize,
     to: usize,
     store: &mut Store,
-    w: u32,
+    w: WidgetId,
 ) -> Result<NativeOut, Memory>
-    requires widget { w < 32 }
-    requires array { IsArray w store.old array }
-    requires confined { (fs : List Forest) × IsConfined fs w store.old }
+    requires array { IsArray w.index store.old array }
+    requires confined { (fs : List Forest) × IsConfined fs w.index store.old }
     requires end { to ≤ array.len }
-    ensures native { IfOk result (λ o. Ends w store.old store.new
+    ensures native { IfOk result (λ o. Ends w.index store.old store.new
         (λ d s. forms.make_array (slice_range
-        (forms.elements s (number w store.old array) array.len) from to) 0 s costs.give) o) }
-    ensures memory { OnErr result ((fs : List Forest) → Kept fs w store.old store.new) }
+        (forms.elements s (number w.index store.old array) array.len) from to) 0 s costs.give) o) }
+    ensures memory { OnErr result ((fs : List Forest) → Kept fs w.index store.old store.new) }
 {
     let all = values_of(alloc, store, w, array)?;
     let values = part(alloc, &all, from, to)?;

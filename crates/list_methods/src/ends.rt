@@ -1,9 +1,6 @@
 //! `pop` and `push`.
-ghost use Rattle.std.specs.Prelude as std;
-ghost use Rattle.std.specs.Prelude.{◌≡◌, ◌+◌, ◌<◌, ◌≤◌, List, IfOk, OnErr, length};
+ghost use Rattle.std.specs.Prelude.{◌≡◌, ◌+◌, ◌≤◌, List, IfOk, OnErr, length};
 ghost use Rattle.js_tree.specs.Forest.{Forest};
-ghost use Rattle.widget_meaning.specs.Values as meaning;
-ghost use Rattle.widget_meaning.specs.NativeForms as forms;
 ghost use Rattle.widget_meaning.specs.ListChanges as changes;
 ghost use Rattle.js_image.specs.Image.{all_seen};
 ghost use Rattle.js_image.specs.Held.{AreFine, IsConfined, Kept};
@@ -16,7 +13,7 @@ use crate::changing::{push_all, shorten};
 use code_units::Memory;
 use js_image::{Paid, element, pay_slots};
 use js_values::{Fault, Meter, NativeOut};
-use native_common::take;
+use native_common::{WidgetId, take};
 use object_store::{Store, Value};
 use std::alloc::Global;
 
@@ -27,14 +24,14 @@ pub(crate) fn pop(
     args: &[Value],
     store: &mut Store,
     meter: &mut Meter,
-    w: u32,
+    w: WidgetId,
 ) -> Result<NativeOut, Memory>
-    requires widget { w < 32 }
-    requires array { IsArray w store.old array }
-    requires confined { (fs : List Forest) × IsConfined fs w store.old }
-    ensures native { IfOk result (λ o. Refines w store.old store.new meter.old meter.new
-        (λ d s. changes.pop (number w store.old array) array.len (all_seen w store.old.cells args.now) s) o) }
-    ensures memory { OnErr result ((fs : List Forest) → Kept fs w store.old store.new) }
+    requires array { IsArray w.index store.old array }
+    requires confined { (fs : List Forest) × IsConfined fs w.index store.old }
+    ensures native { IfOk result (λ o. Refines w.index store.old store.new meter.old meter.new
+        (λ d s. changes.pop (number w.index store.old array) array.len
+        (all_seen w.index store.old.cells args.now) s) o) }
+    ensures memory { OnErr result ((fs : List Forest) → Kept fs w.index store.old store.new) }
 {
     let asked = arg_count(args);
     match take(meter, asked) {
@@ -43,13 +40,17 @@ pub(crate) fn pop(
     }
 }
 
-fn pop_last(alloc: Global, array: OwnArray, store: &mut Store, w: u32) -> Result<NativeOut, Memory>
-    requires widget { w < 32 }
-    requires array { IsArray w store.old array }
-    requires confined { (fs : List Forest) × IsConfined fs w store.old }
+fn pop_last(
+    alloc: Global,
+    array: OwnArray,
+    store: &mut Store,
+    w: WidgetId,
+) -> Result<NativeOut, Memory>
+    requires array { IsArray w.index store.old array }
+    requires confined { (fs : List Forest) × IsConfined fs w.index store.old }
     ensures native { IfOk result
-        (λ o. Ends w store.old store.new (λ d s. popped (number w store.old array) array.len s) o) }
-    ensures memory { OnErr result ((fs : List Forest) → Kept fs w store.old store.new) }
+        (λ o. Ends w.index store.old store.new (λ d s. popped (number w.index store.old array) array.len s) o) }
+    ensures memory { OnErr result ((fs : List Forest) → Kept fs w.index store.old store.new) }
 {
     if array.len == 0 {
         return Ok(NativeOut::Value(Value::Undefined));
@@ -70,14 +71,14 @@ pub(crate) fn push(
     args: &[Value],
     store: &mut Store,
     meter: &mut Meter,
-    w: u32,
+    w: WidgetId,
 ) -> Result<NativeOut, Memory>
-    requires widget { w < 32 }
-    requires array { IsArray w store.old array }
-    requires args { AreFine w store.old.cells args.now }
-    ensures native { IfOk result (λ o. Refines w store.old store.new meter.old meter.new
-        (λ d s. changes.push (number w store.old array) array.len (all_seen w store.old.cells args.now) s) o) }
-    ensures memory { OnErr result ((fs : List Forest) → Kept fs w store.old store.new) }
+    requires array { IsArray w.index store.old array }
+    requires args { AreFine w.index store.old.cells args.now }
+    ensures native { IfOk result (λ o. Refines w.index store.old store.new meter.old meter.new
+        (λ d s. changes.push (number w.index store.old array) array.len
+        (all_seen w.index store.old.cells args.now) s) o) }
+    ensures memory { OnErr result ((fs : List Forest) → Kept fs w.index store.old store.new) }
 {
     let asked = arg_count(args);
     let room = room_behind(array.len);
@@ -103,18 +104,17 @@ fn put_last(
     array: OwnArray,
     args: &[Value],
     store: &mut Store,
-    w: u32,
+    w: WidgetId,
 ) -> Result<NativeOut, Memory>
-    requires widget { w < 32 }
-    requires array { IsArray w store.old array }
-    requires args { AreFine w store.old.cells args.now }
+    requires array { IsArray w.index store.old array }
+    requires args { AreFine w.index store.old.cells args.now }
     requires few { array.len + length args.now ≤ 4294967295 }
-    ensures native { IfOk result (λ o. Ends w store.old store.new
-        (λ d s. put_last (number w store.old array) array.len (all_seen w store.old.cells args.now) s) o) }
-    ensures memory { OnErr result ((fs : List Forest) → Kept fs w store.old store.new) }
+    ensures native { IfOk result (λ o. Ends w.index store.old store.new
+        (λ d s. put_last (number w.index store.old array) array.len (all_seen w.index store.old.cells args.now) s) o) }
+    ensures memory { OnErr result ((fs : List Forest) → Kept fs w.index store.old store.new) }
 {
     let count = count_of(args);
-    match pay_slots(store, w, count) {
+    match pay_slots(store, w.index, count) {
         Paid::Stop(cause) => Ok(NativeOut::Stop(cause)),
         Paid::Done => {
             push_all(alloc, array, args, store, w)?;

@@ -1,5 +1,5 @@
 //! An Array gets other elements.
-ghost use Rattle.std.specs.Prelude.{◌≡◌, ◌<◌, ◌≤◌, List, IfOk, OnErr, OnOk, length};
+ghost use Rattle.std.specs.Prelude.{◌≡◌, ◌≤◌, List, IfOk, OnErr, OnOk, length};
 ghost use Rattle.js_tree.specs.Forest.{Forest};
 ghost use Rattle.widget_meaning.specs.OwnState as state;
 ghost use Rattle.widget_meaning.specs.ListChanges as changes;
@@ -13,6 +13,7 @@ use crate::changing::{push_all, shorten};
 use code_units::Memory;
 use js_image::{Paid, new_indexes, pay_slots};
 use js_values::NativeOut;
+use native_common::WidgetId;
 use object_store::{Store, Value};
 use std::alloc::Global;
 
@@ -23,23 +24,22 @@ pub(crate) fn change(
     values: &[Value],
     given: Value,
     store: &mut Store,
-    w: u32,
+    w: WidgetId,
 ) -> Result<NativeOut, Memory>
-    requires widget { w < 32 }
-    requires array { IsArray w store.old array }
-    requires values { AreFine w store.old.cells values.now }
-    requires given { IsFine w store.old.cells given }
-    ensures native { IfOk result (λ o. Ends w store.old store.new
-        (λ d s. changes.change (number w store.old array) (all_seen w store.old.cells values.now)
-        (seen w store.old.cells given) s) o) }
-    ensures memory { OnErr result ((fs : List Forest) → Kept fs w store.old store.new) }
+    requires array { IsArray w.index store.old array }
+    requires values { AreFine w.index store.old.cells values.now }
+    requires given { IsFine w.index store.old.cells given }
+    ensures native { IfOk result (λ o. Ends w.index store.old store.new
+        (λ d s. changes.change (number w.index store.old array) (all_seen w.index store.old.cells values.now)
+        (seen w.index store.old.cells given) s) o) }
+    ensures memory { OnErr result ((fs : List Forest) → Kept fs w.index store.old store.new) }
 {
     let Ok(len) = u32::try_from(values.len()) else {
         return Err(Memory);
     };
     let base = Value::Ref(array.cell);
     let fresh = new_indexes(store, &base, len);
-    match pay_slots(store, w, fresh) {
+    match pay_slots(store, w.index, fresh) {
         Paid::Stop(cause) => Ok(NativeOut::Stop(cause)),
         Paid::Done => {
             fill(alloc, array, values, store, w)?;
@@ -54,17 +54,16 @@ pub(crate) fn fill(
     array: OwnArray,
     values: &[Value],
     store: &mut Store,
-    w: u32,
+    w: WidgetId,
 ) -> Result<(), Memory>
-    requires widget { w < 32 }
-    requires array { IsArray w store.old array }
-    requires values { AreFine w store.old.cells values.now }
+    requires array { IsArray w.index store.old array }
+    requires values { AreFine w.index store.old.cells values.now }
     requires few { length values.now ≤ 4294967295 }
-    ensures done { OnOk result ((fs : List Forest) (r : Rest) → image fs r w store.new
-        ≡ state.with_cell (image fs r w store.old) (number w store.old array)
-        (changes.with_elements (state.cell_at (image fs r w store.old) (number w store.old array))
-        (all_seen w store.old.cells values.now))) }
-    ensures kept { (fs : List Forest) → Kept fs w store.old store.new }
+    ensures done { OnOk result ((fs : List Forest) (r : Rest) → image fs r w.index store.new
+        ≡ state.with_cell (image fs r w.index store.old) (number w.index store.old array)
+        (changes.with_elements (state.cell_at (image fs r w.index store.old) (number w.index store.old array))
+        (all_seen w.index store.old.cells values.now))) }
+    ensures kept { (fs : List Forest) → Kept fs w.index store.old store.new }
 {
     shorten(alloc, array, 0, store, w)?;
     let emptied = OwnArray {

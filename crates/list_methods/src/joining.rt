@@ -20,7 +20,7 @@ use crate::array::{OwnArray, extra, holds_objects, values_of};
 use code_units::{Memory, Text};
 use js_image::word;
 use js_values::{Fault, Meter, NativeOut};
-use native_common::{give_text, is_object, nth, read_text};
+use native_common::{WidgetId, give_text, is_object, nth, read_text};
 use object_store::{Store, Value};
 use std::alloc::Global;
 
@@ -31,16 +31,16 @@ pub(crate) fn join(
     args: &[Value],
     store: &mut Store,
     meter: &mut Meter,
-    w: u32,
+    w: WidgetId,
 ) -> Result<NativeOut, Memory>
-    requires widget { w < 32 }
-    requires array { IsArray w store.old array }
-    requires confined { (fs : List Forest) × IsConfined fs w store.old }
-    requires args { AreFine w store.old.cells args.now }
-    ensures native { IfOk result (λ o. Refines w store.old store.new meter.old meter.new
-        (λ d s. means.join (number w store.old array) array.len (meaning.nth 0 (all_seen w store.old.cells args.now))
-        (changes.list_extra array.len (all_seen w store.old.cells args.now) s) s) o) }
-    ensures memory { OnErr result ((fs : List Forest) → Kept fs w store.old store.new) }
+    requires array { IsArray w.index store.old array }
+    requires confined { (fs : List Forest) × IsConfined fs w.index store.old }
+    requires args { AreFine w.index store.old.cells args.now }
+    ensures native { IfOk result (λ o. Refines w.index store.old store.new meter.old meter.new
+        (λ d s. means.join (number w.index store.old array) array.len
+        (meaning.nth 0 (all_seen w.index store.old.cells args.now))
+        (changes.list_extra array.len (all_seen w.index store.old.cells args.now) s) s) o) }
+    ensures memory { OnErr result ((fs : List Forest) → Kept fs w.index store.old store.new) }
 {
     let absent = Value::Undefined;
     let between = nth(args, 0, &absent);
@@ -61,14 +61,13 @@ pub(crate) fn to_string(
     array: OwnArray,
     store: &mut Store,
     meter: &mut Meter,
-    w: u32,
+    w: WidgetId,
 ) -> Result<NativeOut, Memory>
-    requires widget { w < 32 }
-    requires array { IsArray w store.old array }
-    requires confined { (fs : List Forest) × IsConfined fs w store.old }
-    ensures native { IfOk result (λ o. Refines w store.old store.new meter.old meter.new
-        (λ d s. prototypes.array_to_string (number w store.old array) array.len s) o) }
-    ensures memory { OnErr result ((fs : List Forest) → Kept fs w store.old store.new) }
+    requires array { IsArray w.index store.old array }
+    requires confined { (fs : List Forest) × IsConfined fs w.index store.old }
+    ensures native { IfOk result (λ o. Refines w.index store.old store.new meter.old meter.new
+        (λ d s. prototypes.array_to_string (number w.index store.old array) array.len s) o) }
+    ensures memory { OnErr result ((fs : List Forest) → Kept fs w.index store.old store.new) }
 {
     if holds_objects(store, w, array) {
         return Ok(NativeOut::Throw(Fault::E4));
@@ -111,17 +110,17 @@ fn give_joined(
     joining: Joining,
     store: &mut Store,
     meter: &mut Meter,
-    w: u32,
+    w: WidgetId,
 ) -> Result<NativeOut, Memory>
-    requires widget { w < 32 }
-    requires array { IsArray w store.old array }
-    requires confined { (fs : List Forest) × IsConfined fs w store.old }
+    requires array { IsArray w.index store.old array }
+    requires confined { (fs : List Forest) × IsConfined fs w.index store.old }
     ensures native { IfOk result (λ o. (n : State → ℕ)
-        → ((fs : List Forest) (r : Rest) → joining.asked ≡ counted (n (image fs r w store.old)))
-        → Refines w store.old store.new meter.old meter.new
+        → ((fs : List Forest) (r : Rest) → joining.asked ≡ counted (n (image fs r w.index store.old)))
+        → Refines w.index store.old store.new meter.old meter.new
         (λ d s. forms.give_text (n s)
-        (join_by means.joined_text joining.separator (forms.elements s (number w store.old array) array.len)) s) o) }
-    ensures memory { OnErr result ((fs : List Forest) → Kept fs w store.old store.new) }
+        (join_by means.joined_text joining.separator
+        (forms.elements s (number w.index store.old array) array.len)) s) o) }
+    ensures memory { OnErr result ((fs : List Forest) → Kept fs w.index store.old store.new) }
 {
     let most = meter.left() as usize;
     if joining.asked > most {

@@ -1,5 +1,5 @@
 //! `forEach`, `map` and `filter`.
-ghost use Rattle.std.specs.Prelude.{◌≡◌, ◌<◌, [], ℕ, List, IfOk, IfSome, is_some, length};
+ghost use Rattle.std.specs.Prelude.{◌≡◌, [], ℕ, List, IfOk, IfSome, is_some, length};
 ghost use Rattle.js_tree.specs.Forest.{Forest};
 ghost use Rattle.store_cells.specs.Shape.{IsRefWithin};
 ghost use Rattle.widget_meaning.specs.Values as meaning;
@@ -17,7 +17,7 @@ use crate::array::{OwnArray, cell_of, counted_len, values_of};
 use code_units::Memory;
 use js_image::{Callee, callee};
 use js_values::{Fault, Keep, Meter, NativeOut, Plan};
-use native_common::{nth, take};
+use native_common::{WidgetId, nth, take};
 use object_store::{CellId, Store, Value};
 use std::alloc::Global;
 
@@ -35,15 +35,15 @@ pub(crate) fn over(
     args: &[Value],
     store: &Store,
     meter: &mut Meter,
-    w: u32,
+    w: WidgetId,
 ) -> Result<NativeOut, Memory>
-    requires array { IsArray w store.now calls.array }
-    requires confined { (fs : List Forest) × IsConfined fs w store.now }
-    requires args { AreFine w store.now.cells args.now }
-    ensures native { IfOk result (λ o. Refines w store.now store.now meter.old meter.new
-        (λ d s. means.over (number w store.now calls.array) calls.array.len
-        (meaning.nth 0 (all_seen w store.now.cells args.now)) d s
-        (gathered calls.keep (forms.elements s (number w store.now calls.array) calls.array.len))) o) }
+    requires array { IsArray w.index store.now calls.array }
+    requires confined { (fs : List Forest) × IsConfined fs w.index store.now }
+    requires args { AreFine w.index store.now.cells args.now }
+    ensures native { IfOk result (λ o. Refines w.index store.now store.now meter.old meter.new
+        (λ d s. means.over (number w.index store.now calls.array) calls.array.len
+        (meaning.nth 0 (all_seen w.index store.now.cells args.now)) d s
+        (gathered calls.keep (forms.elements s (number w.index store.now calls.array) calls.array.len))) o) }
 {
     let absent = Value::Undefined;
     let Some(func) = function_of(store, nth(args, 0, &absent)) else {
@@ -62,15 +62,15 @@ fn gather(
     calls: Calls,
     func: CellId,
     store: &Store,
-    w: u32,
+    w: WidgetId,
 ) -> Result<NativeOut, Memory>
-    requires array { IsArray w store.now calls.array }
-    requires confined { (fs : List Forest) × IsConfined fs w store.now }
-    requires func { IsHeld w store.now.cells func }
-    ensures native { IfOk result (λ o. Ends w store.now store.now
-        (λ d s. means.call_each (seen w store.now.cells (Value.Ref func))
-        (forms.elements s (number w store.now calls.array) calls.array.len) 0 [] d s
-        (gathered calls.keep (forms.elements s (number w store.now calls.array) calls.array.len))) o) }
+    requires array { IsArray w.index store.now calls.array }
+    requires confined { (fs : List Forest) × IsConfined fs w.index store.now }
+    requires func { IsHeld w.index store.now.cells func }
+    ensures native { IfOk result (λ o. Ends w.index store.now store.now
+        (λ d s. means.call_each (seen w.index store.now.cells (Value.Ref func))
+        (forms.elements s (number w.index store.now calls.array) calls.array.len) 0 [] d s
+        (gathered calls.keep (forms.elements s (number w.index store.now calls.array) calls.array.len))) o) }
 {
     let items = values_of(alloc, store, w, calls.array)?;
     Ok(NativeOut::Call(Plan::Gather {

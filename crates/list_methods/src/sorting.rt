@@ -1,5 +1,5 @@
 //! `sort`.
-ghost use Rattle.std.specs.Prelude.{◌≡◌, ◌<◌, ℕ, List, IfOk, OnErr, OnOk, map};
+ghost use Rattle.std.specs.Prelude.{◌≡◌, ℕ, List, IfOk, OnErr, OnOk, map};
 ghost use Rattle.std.specs.List.{AllByRecursion};
 ghost use Rattle.std.specs.List.Sorted.{IsPermutation, IsSortedBy, IsStableBy};
 ghost use Rattle.std.specs.Ordering.{is_lt};
@@ -18,7 +18,7 @@ use crate::array::{OwnArray, extra, holds_objects, values_of};
 use crate::filling::change;
 use code_units::{Memory, Text};
 use js_values::{Fault, Meter, NativeOut};
-use native_common::{nth, read_text, take};
+use native_common::{WidgetId, nth, read_text, take};
 use object_store::{Store, Value};
 use std::alloc::Global;
 use std::cmp::Ordering;
@@ -30,15 +30,15 @@ pub(crate) fn sort(
     args: &[Value],
     store: &mut Store,
     meter: &mut Meter,
-    w: u32,
+    w: WidgetId,
 ) -> Result<NativeOut, Memory>
-    requires widget { w < 32 }
-    requires array { IsArray w store.old array }
-    requires confined { (fs : List Forest) × IsConfined fs w store.old }
-    requires args { AreFine w store.old.cells args.now }
-    ensures native { IfOk result (λ o. Refines w store.old store.new meter.old meter.new
-        (λ d s. changes.sort (number w store.old array) array.len (all_seen w store.old.cells args.now) s) o) }
-    ensures memory { OnErr result ((fs : List Forest) → Kept fs w store.old store.new) }
+    requires array { IsArray w.index store.old array }
+    requires confined { (fs : List Forest) × IsConfined fs w.index store.old }
+    requires args { AreFine w.index store.old.cells args.now }
+    ensures native { IfOk result (λ o. Refines w.index store.old store.new meter.old meter.new
+        (λ d s. changes.sort (number w.index store.old array) array.len
+        (all_seen w.index store.old.cells args.now) s) o) }
+    ensures memory { OnErr result ((fs : List Forest) → Kept fs w.index store.old store.new) }
 {
     let absent = Value::Undefined;
     if has_order(nth(args, 0, &absent)) {
@@ -68,16 +68,15 @@ fn put_in_order(
     alloc: Global,
     array: OwnArray,
     store: &mut Store,
-    w: u32,
+    w: WidgetId,
 ) -> Result<NativeOut, Memory>
-    requires widget { w < 32 }
-    requires array { IsArray w store.old array }
-    requires confined { (fs : List Forest) × IsConfined fs w store.old }
-    ensures native { IfOk result (λ o. Ends w store.old store.new
-        (λ d s. changes.change (number w store.old array)
-        (changes.sorted (forms.elements s (number w store.old array) array.len))
-        (meaning.Own (number w store.old array)) s) o) }
-    ensures memory { OnErr result ((fs : List Forest) → Kept fs w store.old store.new) }
+    requires array { IsArray w.index store.old array }
+    requires confined { (fs : List Forest) × IsConfined fs w.index store.old }
+    ensures native { IfOk result (λ o. Ends w.index store.old store.new
+        (λ d s. changes.change (number w.index store.old array)
+        (changes.sorted (forms.elements s (number w.index store.old array) array.len))
+        (meaning.Own (number w.index store.old array)) s) o) }
+    ensures memory { OnErr result ((fs : List Forest) → Kept fs w.index store.old store.new) }
 {
     let all = values_of(alloc, store, w, array)?;
     let values = sorted(alloc, &all)?;

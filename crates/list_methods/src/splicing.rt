@@ -1,5 +1,5 @@
 //! `splice`.
-ghost use Rattle.std.specs.Prelude.{◌≡◌, ◌+◌, ◌++◌, ◌-◌, ◌<◌, ◌≤◌, ℕ, List, IfOk, OnErr, drop, length, take};
+ghost use Rattle.std.specs.Prelude.{◌≡◌, ◌+◌, ◌++◌, ◌-◌, ◌≤◌, ℕ, List, IfOk, OnErr, drop, length, take};
 ghost use Rattle.js_tree.specs.Forest.{Forest};
 ghost use Rattle.store_cells.specs.Cells.{PlainCell};
 ghost use Rattle.widget_meaning.specs.NativeForms as forms;
@@ -16,7 +16,7 @@ use crate::filling::fill;
 use code_units::{Memory, Owner};
 use js_image::{Made, Paid, StopCause, make_array, new_indexes, pay_slots};
 use js_values::{Fault, Meter, NativeOut};
-use native_common::{any_object, clamped, from_end, nth, number_or, take};
+use native_common::{WidgetId, any_object, clamped, from_end, nth, number_or, take};
 use object_store::{CELL_LIMIT, SLOT_LIMIT, Store, Value};
 use std::alloc::Global;
 
@@ -34,15 +34,15 @@ pub(crate) fn splice(
     args: &[Value],
     store: &mut Store,
     meter: &mut Meter,
-    w: u32,
+    w: WidgetId,
 ) -> Result<NativeOut, Memory>
-    requires widget { w < 32 }
-    requires array { IsArray w store.old array }
-    requires confined { (fs : List Forest) × IsConfined fs w store.old }
-    requires args { AreFine w store.old.cells args.now }
-    ensures native { IfOk result (λ o. Refines w store.old store.new meter.old meter.new
-        (λ d s. changes.splice (number w store.old array) array.len (all_seen w store.old.cells args.now) s) o) }
-    ensures memory { OnErr result ((fs : List Forest) → Kept fs w store.old store.new) }
+    requires array { IsArray w.index store.old array }
+    requires confined { (fs : List Forest) × IsConfined fs w.index store.old }
+    requires args { AreFine w.index store.old.cells args.now }
+    ensures native { IfOk result (λ o. Refines w.index store.old store.new meter.old meter.new
+        (λ d s. changes.splice (number w.index store.old array) array.len
+        (all_seen w.index store.old.cells args.now) s) o) }
+    ensures memory { OnErr result ((fs : List Forest) → Kept fs w.index store.old store.new) }
 {
     if any_object(first_two(args)) {
         return Ok(NativeOut::Throw(Fault::E4));
@@ -110,18 +110,17 @@ fn spliced(
     cut: Cut,
     new: &[Value],
     store: &mut Store,
-    w: u32,
+    w: WidgetId,
 ) -> Result<NativeOut, Memory>
-    requires widget { w < 32 }
-    requires array { IsArray w store.old array }
-    requires confined { (fs : List Forest) × IsConfined fs w store.old }
-    requires new { AreFine w store.old.cells new.now }
+    requires array { IsArray w.index store.old array }
+    requires confined { (fs : List Forest) × IsConfined fs w.index store.old }
+    requires new { AreFine w.index store.old.cells new.now }
     requires within { cut.at + cut.count ≤ array.len }
-    ensures native { IfOk result (λ o. Ends w store.old store.new
-        (λ d s. changes.spliced (number w store.old array)
-        (forms.elements s (number w store.old array) array.len) cut.at cut.count
-        (all_seen w store.old.cells new.now) s) o) }
-    ensures memory { OnErr result ((fs : List Forest) → Kept fs w store.old store.new) }
+    ensures native { IfOk result (λ o. Ends w.index store.old store.new
+        (λ d s. changes.spliced (number w.index store.old array)
+        (forms.elements s (number w.index store.old array) array.len) cut.at cut.count
+        (all_seen w.index store.old.cells new.now) s) o) }
+    ensures memory { OnErr result ((fs : List Forest) → Kept fs w.index store.old store.new) }
 {
     let all = values_of(alloc, store, w, array)?;
     let taken = part(alloc, &all, cut.at, cut.at + cut.count)?;
@@ -148,30 +147,29 @@ fn exchange(
     taken: Vec<Value>,
     left: &[Value],
     store: &mut Store,
-    w: u32,
+    w: WidgetId,
 ) -> Result<NativeOut, Memory>
-    requires widget { w < 32 }
-    requires array { IsArray w store.old array }
-    requires taken { AreFine w store.old.cells taken.items }
-    requires left { AreFine w store.old.cells left.now }
-    ensures native { IfOk result (λ o. Ends w store.old store.new
-        (λ d s. exchanged (number w store.old array) (all_seen w store.old.cells taken.items)
-        (all_seen w store.old.cells left.now) s) o) }
-    ensures memory { OnErr result ((fs : List Forest) → Kept fs w store.old store.new) }
+    requires array { IsArray w.index store.old array }
+    requires taken { AreFine w.index store.old.cells taken.items }
+    requires left { AreFine w.index store.old.cells left.now }
+    ensures native { IfOk result (λ o. Ends w.index store.old store.new
+        (λ d s. exchanged (number w.index store.old array) (all_seen w.index store.old.cells taken.items)
+        (all_seen w.index store.old.cells left.now) s) o) }
+    ensures memory { OnErr result ((fs : List Forest) → Kept fs w.index store.old store.new) }
 {
     let Ok(len) = u32::try_from(left.len()) else {
         return Err(Memory);
     };
     let base = Value::Ref(array.cell);
     let fresh = new_indexes(store, &base, len);
-    let paid = store.counts(Owner::Widget(w));
+    let paid = store.counts(Owner::Widget(w.index));
     if paid.cells >= CELL_LIMIT {
         return Ok(NativeOut::Stop(StopCause::Cells));
     }
     if taken.len().saturating_add(fresh as usize) > (SLOT_LIMIT - paid.slots) as usize {
         return Ok(NativeOut::Stop(StopCause::Slots));
     }
-    match pay_slots(store, w, fresh) {
+    match pay_slots(store, w.index, fresh) {
         Paid::Stop(_) => Err(Memory),
         Paid::Done => give_taken(alloc, array, taken, left, store, w),
     }
@@ -184,19 +182,18 @@ fn give_taken(
     taken: Vec<Value>,
     left: &[Value],
     store: &mut Store,
-    w: u32,
+    w: WidgetId,
 ) -> Result<NativeOut, Memory>
-    requires widget { w < 32 }
-    requires array { IsArray w store.old array }
-    requires taken { AreFine w store.old.cells taken.items }
-    requires left { AreFine w store.old.cells left.now }
+    requires array { IsArray w.index store.old array }
+    requires taken { AreFine w.index store.old.cells taken.items }
+    requires left { AreFine w.index store.old.cells left.now }
     requires few { length left.now ≤ 4294967295 }
-    ensures native { IfOk result (λ o. Ends w store.old store.new
-        (λ d s. filled_after (number w store.old array) (all_seen w store.old.cells taken.items)
-        (all_seen w store.old.cells left.now) s) o) }
-    ensures memory { OnErr result ((fs : List Forest) → Kept fs w store.old store.new) }
+    ensures native { IfOk result (λ o. Ends w.index store.old store.new
+        (λ d s. filled_after (number w.index store.old array) (all_seen w.index store.old.cells taken.items)
+        (all_seen w.index store.old.cells left.now) s) o) }
+    ensures memory { OnErr result ((fs : List Forest) → Kept fs w.index store.old store.new) }
 {
-    let made = make_array(alloc, store, w, taken, 0)?;
+    let made = make_array(alloc, store, w.index, taken, 0)?;
     match made {
         Made::Stop(cause) => Ok(NativeOut::Stop(cause)),
         Made::Cell(id) => {

@@ -1,6 +1,6 @@
 //! `shift`, `unshift` and `reverse`.
 ghost use Rattle.std.specs.Prelude as std;
-ghost use Rattle.std.specs.Prelude.{◌≡◌, ◌+◌, ◌++◌, ◌<◌, ◌≤◌, List, IfOk, OnErr, drop, length, pos, slice_get, unwrap_or};
+ghost use Rattle.std.specs.Prelude.{◌≡◌, ◌+◌, ◌++◌, ◌≤◌, List, IfOk, OnErr, drop, length, pos, slice_get, unwrap_or};
 ghost use Rattle.js_tree.specs.Forest.{Forest};
 ghost use Rattle.widget_meaning.specs.Values as meaning;
 ghost use Rattle.widget_meaning.specs.NativeForms as forms;
@@ -15,7 +15,7 @@ use crate::ends::{count_of, room_behind};
 use crate::filling::change;
 use code_units::Memory;
 use js_values::{Fault, Meter, NativeOut};
-use native_common::{nth, take};
+use native_common::{WidgetId, nth, take};
 use object_store::{Store, Value};
 use std::alloc::Global;
 
@@ -26,15 +26,15 @@ pub(crate) fn shift(
     args: &[Value],
     store: &mut Store,
     meter: &mut Meter,
-    w: u32,
+    w: WidgetId,
 ) -> Result<NativeOut, Memory>
-    requires widget { w < 32 }
-    requires array { IsArray w store.old array }
-    requires confined { (fs : List Forest) × IsConfined fs w store.old }
-    requires args { AreFine w store.old.cells args.now }
-    ensures native { IfOk result (λ o. Refines w store.old store.new meter.old meter.new
-        (λ d s. changes.shift (number w store.old array) array.len (all_seen w store.old.cells args.now) s) o) }
-    ensures memory { OnErr result ((fs : List Forest) → Kept fs w store.old store.new) }
+    requires array { IsArray w.index store.old array }
+    requires confined { (fs : List Forest) × IsConfined fs w.index store.old }
+    requires args { AreFine w.index store.old.cells args.now }
+    ensures native { IfOk result (λ o. Refines w.index store.old store.new meter.old meter.new
+        (λ d s. changes.shift (number w.index store.old array) array.len
+        (all_seen w.index store.old.cells args.now) s) o) }
+    ensures memory { OnErr result ((fs : List Forest) → Kept fs w.index store.old store.new) }
 {
     let asked = extra(store, w, array.len, args);
     match take(meter, asked) {
@@ -47,16 +47,15 @@ fn take_first(
     alloc: Global,
     array: OwnArray,
     store: &mut Store,
-    w: u32,
+    w: WidgetId,
 ) -> Result<NativeOut, Memory>
-    requires widget { w < 32 }
-    requires array { IsArray w store.old array }
-    requires confined { (fs : List Forest) × IsConfined fs w store.old }
-    ensures native { IfOk result (λ o. Ends w store.old store.new
-        (λ d s. changes.change (number w store.old array)
-        (drop 1 (forms.elements s (number w store.old array) array.len))
-        (meaning.nth 0 (forms.elements s (number w store.old array) array.len)) s) o) }
-    ensures memory { OnErr result ((fs : List Forest) → Kept fs w store.old store.new) }
+    requires array { IsArray w.index store.old array }
+    requires confined { (fs : List Forest) × IsConfined fs w.index store.old }
+    ensures native { IfOk result (λ o. Ends w.index store.old store.new
+        (λ d s. changes.change (number w.index store.old array)
+        (drop 1 (forms.elements s (number w.index store.old array) array.len))
+        (meaning.nth 0 (forms.elements s (number w.index store.old array) array.len)) s) o) }
+    ensures memory { OnErr result ((fs : List Forest) → Kept fs w.index store.old store.new) }
 {
     let all = values_of(alloc, store, w, array)?;
     let first = first_of(&all)?;
@@ -85,15 +84,15 @@ pub(crate) fn unshift(
     args: &[Value],
     store: &mut Store,
     meter: &mut Meter,
-    w: u32,
+    w: WidgetId,
 ) -> Result<NativeOut, Memory>
-    requires widget { w < 32 }
-    requires array { IsArray w store.old array }
-    requires confined { (fs : List Forest) × IsConfined fs w store.old }
-    requires args { AreFine w store.old.cells args.now }
-    ensures native { IfOk result (λ o. Refines w store.old store.new meter.old meter.new
-        (λ d s. changes.unshift (number w store.old array) array.len (all_seen w store.old.cells args.now) s) o) }
-    ensures memory { OnErr result ((fs : List Forest) → Kept fs w store.old store.new) }
+    requires array { IsArray w.index store.old array }
+    requires confined { (fs : List Forest) × IsConfined fs w.index store.old }
+    requires args { AreFine w.index store.old.cells args.now }
+    ensures native { IfOk result (λ o. Refines w.index store.old store.new meter.old meter.new
+        (λ d s. changes.unshift (number w.index store.old array) array.len
+        (all_seen w.index store.old.cells args.now) s) o) }
+    ensures memory { OnErr result ((fs : List Forest) → Kept fs w.index store.old store.new) }
 {
     let count = arg_count(args);
     let room = room_behind(array.len);
@@ -113,18 +112,17 @@ fn put_first(
     array: OwnArray,
     args: &[Value],
     store: &mut Store,
-    w: u32,
+    w: WidgetId,
 ) -> Result<NativeOut, Memory>
-    requires widget { w < 32 }
-    requires array { IsArray w store.old array }
-    requires confined { (fs : List Forest) × IsConfined fs w store.old }
-    requires args { AreFine w store.old.cells args.now }
+    requires array { IsArray w.index store.old array }
+    requires confined { (fs : List Forest) × IsConfined fs w.index store.old }
+    requires args { AreFine w.index store.old.cells args.now }
     requires few { array.len + length args.now ≤ 4294967295 }
-    ensures native { IfOk result (λ o. Ends w store.old store.new
-        (λ d s. changes.change (number w store.old array)
-        (all_seen w store.old.cells args.now ++ forms.elements s (number w store.old array) array.len)
-        (meaning.Num (pos (array.len + length (all_seen w store.old.cells args.now)))) s) o) }
-    ensures memory { OnErr result ((fs : List Forest) → Kept fs w store.old store.new) }
+    ensures native { IfOk result (λ o. Ends w.index store.old store.new
+        (λ d s. changes.change (number w.index store.old array)
+        (all_seen w.index store.old.cells args.now ++ forms.elements s (number w.index store.old array) array.len)
+        (meaning.Num (pos (array.len + length (all_seen w.index store.old.cells args.now)))) s) o) }
+    ensures memory { OnErr result ((fs : List Forest) → Kept fs w.index store.old store.new) }
 {
     let all = values_of(alloc, store, w, array)?;
     let values = in_front(alloc, args, &all)?;
@@ -149,15 +147,15 @@ pub(crate) fn reverse(
     args: &[Value],
     store: &mut Store,
     meter: &mut Meter,
-    w: u32,
+    w: WidgetId,
 ) -> Result<NativeOut, Memory>
-    requires widget { w < 32 }
-    requires array { IsArray w store.old array }
-    requires confined { (fs : List Forest) × IsConfined fs w store.old }
-    requires args { AreFine w store.old.cells args.now }
-    ensures native { IfOk result (λ o. Refines w store.old store.new meter.old meter.new
-        (λ d s. changes.reverse (number w store.old array) array.len (all_seen w store.old.cells args.now) s) o) }
-    ensures memory { OnErr result ((fs : List Forest) → Kept fs w store.old store.new) }
+    requires array { IsArray w.index store.old array }
+    requires confined { (fs : List Forest) × IsConfined fs w.index store.old }
+    requires args { AreFine w.index store.old.cells args.now }
+    ensures native { IfOk result (λ o. Refines w.index store.old store.new meter.old meter.new
+        (λ d s. changes.reverse (number w.index store.old array) array.len
+        (all_seen w.index store.old.cells args.now) s) o) }
+    ensures memory { OnErr result ((fs : List Forest) → Kept fs w.index store.old store.new) }
 {
     let asked = extra(store, w, array.len, args);
     match take(meter, asked) {
@@ -166,15 +164,14 @@ pub(crate) fn reverse(
     }
 }
 
-fn turn(alloc: Global, array: OwnArray, store: &mut Store, w: u32) -> Result<NativeOut, Memory>
-    requires widget { w < 32 }
-    requires array { IsArray w store.old array }
-    requires confined { (fs : List Forest) × IsConfined fs w store.old }
-    ensures native { IfOk result (λ o. Ends w store.old store.new
-        (λ d s. changes.change (number w store.old array)
-        (std.reverse (forms.elements s (number w store.old array) array.len))
-        (meaning.Own (number w store.old array)) s) o) }
-    ensures memory { OnErr result ((fs : List Forest) → Kept fs w store.old store.new) }
+fn turn(alloc: Global, array: OwnArray, store: &mut Store, w: WidgetId) -> Result<NativeOut, Memory>
+    requires array { IsArray w.index store.old array }
+    requires confined { (fs : List Forest) × IsConfined fs w.index store.old }
+    ensures native { IfOk result (λ o. Ends w.index store.old store.new
+        (λ d s. changes.change (number w.index store.old array)
+        (std.reverse (forms.elements s (number w.index store.old array) array.len))
+        (meaning.Own (number w.index store.old array)) s) o) }
+    ensures memory { OnErr result ((fs : List Forest) → Kept fs w.index store.old store.new) }
 {
     let all = values_of(alloc, store, w, array)?;
     let values = reversed(all);

@@ -1,5 +1,5 @@
 //! Texts that are made and given.
-ghost use Rattle.std.specs.Prelude.{◌≡◌, ◌<◌, ℕ, List, IfOk, OnErr, length, map, sum_by};
+ghost use Rattle.std.specs.Prelude.{◌≡◌, ℕ, List, IfOk, OnErr, length, map, sum_by};
 ghost use Rattle.std.specs.List.{list_any};
 ghost use Rattle.js_tree.specs.Forest.{Forest};
 ghost use Rattle.widget_meaning.specs.Values.{Text as Meant};
@@ -12,6 +12,7 @@ ghost use Rattle.native_common.specs.Numbers.{counted};
 
 use crate::arguments::text_len;
 use crate::charging::take;
+use crate::widget_id::WidgetId;
 use code_units::{Memory, Text};
 use js_image::{Made, Paid, make_array, pay_text};
 use js_values::{Meter, NativeOut, StopCause};
@@ -19,11 +20,10 @@ use object_store::{Store, Value};
 use std::alloc::Global;
 
 /// A text that is made costs its units, and is given.
-pub fn make_text(store: &mut Store, w: u32, text: Text) -> NativeOut
-    requires { w < 32 }
-    ensures { Ends w store.old store.new (λ d s. costs.make_text text s (costs.give (Meant text))) result }
+pub fn make_text(store: &mut Store, w: WidgetId, text: Text) -> NativeOut
+    ensures { Ends w.index store.old store.new (λ d s. costs.make_text text s (costs.give (Meant text))) result }
 {
-    match pay_text(store, w, &text) {
+    match pay_text(store, w.index, &text) {
         Paid::Done => NativeOut::Value(Value::Text(text)),
         Paid::Stop(cause) => NativeOut::Stop(cause),
     }
@@ -33,13 +33,12 @@ pub fn make_text(store: &mut Store, w: u32, text: Text) -> NativeOut
 pub fn give_text(
     store: &mut Store,
     meter: &mut Meter,
-    w: u32,
+    w: WidgetId,
     extra: usize,
     text: Text,
 ) -> NativeOut
-    requires { w < 32 }
     ensures { (n : ℕ) → extra ≡ counted n
-        → Refines w store.old store.new meter.old meter.new (λ d s. forms.give_text n text s) result }
+        → Refines w.index store.old store.new meter.old meter.new (λ d s. forms.give_text n text s) result }
 {
     match take(meter, extra.saturating_add(text.units().len())) {
         Ok(()) => make_text(store, w, text),
@@ -52,14 +51,13 @@ pub fn give_units(
     alloc: Global,
     store: &mut Store,
     meter: &mut Meter,
-    w: u32,
+    w: WidgetId,
     extra: usize,
     units: &[u16],
 ) -> Result<NativeOut, Memory>
-    requires { w < 32 }
     ensures native { IfOk result (λ o. (n : ℕ) → extra ≡ counted n
-        → Refines w store.old store.new meter.old meter.new (λ d s. forms.give_text n units.now s) o) }
-    ensures memory { OnErr result ((fs : List Forest) → Kept fs w store.old store.new) }
+        → Refines w.index store.old store.new meter.old meter.new (λ d s. forms.give_text n units.now s) o) }
+    ensures memory { OnErr result ((fs : List Forest) → Kept fs w.index store.old store.new) }
 {
     let text = Text::from_units(alloc, Vec::from_slice(alloc, units)?)?;
     Ok(give_text(store, meter, w, extra, text))
@@ -69,18 +67,17 @@ pub fn give_units(
 pub fn give_array(
     alloc: Global,
     store: &mut Store,
-    w: u32,
+    w: WidgetId,
     values: Vec<Value>,
     units: u32,
 ) -> Result<NativeOut, Memory>
-    requires widget { w < 32 }
-    requires held { AreFine w store.old.cells values.items }
+    requires { AreFine w.index store.old.cells values.items }
     ensures native { IfOk result
-        (λ o. Ends w store.old store.new
-        (λ d s. forms.make_array (all_seen w store.old.cells values.items) units s costs.give) o) }
-    ensures memory { OnErr result ((fs : List Forest) → Kept fs w store.old store.new) }
+        (λ o. Ends w.index store.old store.new
+        (λ d s. forms.make_array (all_seen w.index store.old.cells values.items) units s costs.give) o) }
+    ensures memory { OnErr result ((fs : List Forest) → Kept fs w.index store.old store.new) }
 {
-    match make_array(alloc, store, w, values, units)? {
+    match make_array(alloc, store, w.index, values, units)? {
         Made::Cell(id) => Ok(NativeOut::Value(Value::Ref(id))),
         Made::Stop(cause) => Ok(NativeOut::Stop(cause)),
     }
@@ -91,14 +88,13 @@ pub fn give_array(
 pub fn give_texts(
     alloc: Global,
     store: &mut Store,
-    w: u32,
+    w: WidgetId,
     parts: Vec<Text>,
     units: u32,
 ) -> Result<NativeOut, Memory>
-    requires widget { w < 32 }
-    requires units { units ≡ sum_by length parts.items }
-    ensures native { IfOk result (λ o. Ends w store.old store.new (λ d s. forms.give_texts parts.items s) o) }
-    ensures memory { OnErr result ((fs : List Forest) → Kept fs w store.old store.new) }
+    requires { units ≡ sum_by length parts.items }
+    ensures native { IfOk result (λ o. Ends w.index store.old store.new (λ d s. forms.give_texts parts.items s) o) }
+    ensures memory { OnErr result ((fs : List Forest) → Kept fs w.index store.old store.new) }
 {
     if any_long(&parts) {
         return Ok(NativeOut::Stop(StopCause::LongText));

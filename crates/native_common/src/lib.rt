@@ -6,6 +6,7 @@ mod arguments;
 mod charging;
 mod giving;
 mod laws;
+mod widget_id;
 
 pub use arguments::{
     all_units_read, any_object, clamped, either_object, from_end, is_object, is_plain_call, nth,
@@ -14,3 +15,4 @@ pub use arguments::{
 pub use charging::{charged, given, take};
 pub use giving::{give_array, give_text, give_texts, give_units, make_text};
 pub use laws::refines;
+pub use widget_id::WidgetId;

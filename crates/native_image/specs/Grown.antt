@@ -1,6 +1,7 @@
 -- New nodes of a widget.
 use Rattle.std.specs.Prelude.{◌≡◌, ℕ, ◌+◌, ◌<◌, ◌≤◌, ◌⊎◌, true, length}
-use Rattle.plain_tree.specs.Trees.{Trees, beside}
+use Rattle.plain_tree.specs.Trees.{Trees, beside, size}
+use Rattle.tree_ops.specs.Trees.{copied, numbered, subtree}
 use Rattle.page_tree.specs.declared.page.Page.{Page}
 use Rattle.page_image.specs.Image.{forest, number, own, owns}
 use Rattle.page_image.specs.Stays.{GrowsBy, OthersStay, HostStays}
@@ -14,3 +15,7 @@ pub record IsGrown (w : ℕ) (old new : Page) (id many : ℕ) (tree : Trees ℕ)
   pub others : OthersStay old new w
   pub host : HostStays old new
   pub fresh : (v n : ℕ) → owns new v n ≡ true → (owns old v n ≡ true) ⊎ ((id ≤ n) × (n < id + many))
+
+-- A copy of a widget's node, with all below it, stands there.
+abbrev pub IsCopied : ℕ → Page → Page → ℕ → ℕ → Type 0
+IsCopied w old new id node = let tree = subtree (number old w node) (forest old w) in IsGrown w old new id (size tree) (numbered (length (own old w)) (copied tree))

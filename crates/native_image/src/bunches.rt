@@ -1,5 +1,5 @@
 //! Bunches of a widget.
-ghost use Rattle.std.specs.Prelude.{◌≡◌, ℕ, ◌<◌, ◌++◌, Bool, List, [], ◌∷◌, Option, true, IfOk, OnOk, IfSome, map, nat_eq};
+ghost use Rattle.std.specs.Prelude.{◌≡◌, ℕ, ◌++◌, Bool, List, [], ◌∷◌, Option, true, IfOk, OnOk, IfSome, map, nat_eq};
 ghost use Rattle.std.specs.List.{IsDistinct};
 ghost use Rattle.std.specs.Option.{option_and_then, option_map};
 ghost use Rattle.js_tree.specs.Forest.{Forest};
@@ -23,7 +23,7 @@ ghost use Rattle.native_image.specs.Sound.{AreNodes, HoldsOwn, IsSound, KeepsSto
 use code_units::{Memory, Owner};
 use js_image::{Made, StopCause};
 use js_values::NativeOut;
-use native_common::is_plain_call;
+use native_common::{WidgetId, is_plain_call};
 use object_store::{NewCell, Store, StoreFault, Value};
 use page_tree::{NodeId, Page};
 use std::alloc::Global;
@@ -32,17 +32,17 @@ use std::alloc::Global;
 pub fn bunch_of(
     alloc: Global,
     store: &Store,
-    w: u32,
+    w: WidgetId,
     page: &Page,
     v: &Value,
 ) -> Result<Option<Vec<NodeId>>, Memory>
-    requires widget { w < 32 }
-    requires held { HoldNodes (owns page.now w) w store.now }
-    requires fine { IsFine w store.now.cells v.now }
+    requires held { HoldNodes (owns page.now w.index) w.index store.now }
+    requires fine { IsFine w.index store.now.cells v.now }
     ensures read { IfOk result (λ o. (fs : List Forest) (x : Outside) (l : Loop) (b : Option Bool)
-        → bunch_nodes (kind_of (image fs x w (beside store.now page.now l b)) (seen w store.now.cells v.now))
-        ≡ option_map (λ ns. map (number page.now w) ns.items) o) }
-    ensures nodes { IfOk result (λ o. IfSome o (λ ns. AreNodes page.now w ns.items)) }
+        → bunch_nodes (kind_of (image fs x w.index (beside store.now page.now l b))
+        (seen w.index store.now.cells v.now))
+        ≡ option_map (λ ns. map (number page.now w.index) ns.items) o) }
+    ensures nodes { IfOk result (λ o. IfSome o (λ ns. AreNodes page.now w.index ns.items)) }
 {
     js_image::bunch_nodes(alloc, store, v)
 }
@@ -52,18 +52,17 @@ pub fn bunch_of(
 pub fn receiver_of(
     alloc: Global,
     store: &Store,
-    w: u32,
+    w: WidgetId,
     page: &Page,
     this: &Value,
 ) -> Result<Option<Vec<NodeId>>, Memory>
-    requires widget { w < 32 }
-    requires held { HoldNodes (owns page.now w) w store.now }
-    requires receiver { IsReceiver w store.now.cells this.now }
+    requires held { HoldNodes (owns page.now w.index) w.index store.now }
+    requires receiver { IsReceiver w.index store.now.cells this.now }
     ensures read { IfOk result (λ o. (fs : List Forest) (x : Outside) (l : Loop) (b : Option Bool)
-        → option_and_then (λ v. bunch_nodes (kind_of (image fs x w (beside store.now page.now l b)) v))
-        (receiver w store.now.cells this.now)
-        ≡ option_map (λ ns. map (number page.now w) ns.items) o) }
-    ensures nodes { IfOk result (λ o. IfSome o (λ ns. AreNodes page.now w ns.items)) }
+        → option_and_then (λ v. bunch_nodes (kind_of (image fs x w.index (beside store.now page.now l b)) v))
+        (receiver w.index store.now.cells this.now)
+        ≡ option_map (λ ns. map (number page.now w.index) ns.items) o) }
+    ensures nodes { IfOk result (λ o. IfSome o (λ ns. AreNodes page.now w.index ns.items)) }
 {
     if is_plain_call(this) {
         return Ok(None);
@@ -76,27 +75,27 @@ pub fn receiver_of(
 pub fn make_bunch(
     alloc: Global,
     store: &mut Store,
-    w: u32,
+    w: WidgetId,
     page: &Page,
     nodes: Vec<NodeId>,
 ) -> Result<Made, Memory>
-    requires widget { w < 32 }
-    requires sound { (l : Loop) × IsSound w store.old page.now l }
-    requires own { (n : ℕ) → has_number nodes.items n ≡ true → owns page.now w n ≡ true }
+    requires sound { (l : Loop) × IsSound w.index store.old page.now l }
+    requires own { (n : ℕ) → has_number nodes.items n ≡ true → owns page.now w.index n ≡ true }
     requires apart { IsDistinct nat_eq nodes.items }
     ensures plan { IfOk result
         (λ m. (fs : List Forest) (x : Outside) (l : Loop) (b : Option Bool) (k : Meant → State → Plan)
-        → HoldsOwn w store.old page.now l
-        → forms.make_bunch (map (number page.now w) nodes.items) (image fs x w (beside store.old page.now l b)) k
-        ≡ made_plan w store.new.cells m k (image fs x w (beside store.new page.now l b))) }
-    ensures fine { IfOk result (λ m. IsFineMade w store.new.cells m) }
-    ensures sound { (l : Loop) → IsSound w store.old page.now l → IsSound w store.new page.now l }
-    ensures kept { KeepsStore w store.old store.new }
+        → HoldsOwn w.index store.old page.now l
+        → forms.make_bunch (map (number page.now w.index) nodes.items)
+        (image fs x w.index (beside store.old page.now l b)) k
+        ≡ made_plan w.index store.new.cells m k (image fs x w.index (beside store.new page.now l b))) }
+    ensures fine { IfOk result (λ m. IsFineMade w.index store.new.cells m) }
+    ensures sound { (l : Loop) → IsSound w.index store.old page.now l → IsSound w.index store.new page.now l }
+    ensures kept { KeepsStore w.index store.old store.new }
 {
     // The host's cells are there, and what the widget has paid is within the limits.
     store.host_stays();
-    let _paid = store.counts(Owner::Widget(w));
-    match store.make(alloc, Owner::Widget(w), NewCell::Bunch(nodes)) {
+    let _paid = store.counts(Owner::Widget(w.index));
+    match store.make(alloc, Owner::Widget(w.index), NewCell::Bunch(nodes)) {
         Ok(id) => Ok(Made::Cell(id)),
         Err(fault) => Ok(Made::Stop(stop_of(fault)?)),
     }
@@ -106,19 +105,18 @@ pub fn make_bunch(
 pub fn give_bunch(
     alloc: Global,
     store: &mut Store,
-    w: u32,
+    w: WidgetId,
     page: &Page,
     nodes: Vec<NodeId>,
 ) -> Result<NativeOut, Memory>
-    requires widget { w < 32 }
-    requires sound { (l : Loop) × IsSound w store.old page.now l }
-    requires own { (n : ℕ) → has_number nodes.items n ≡ true → owns page.now w n ≡ true }
+    requires sound { (l : Loop) × IsSound w.index store.old page.now l }
+    requires own { (n : ℕ) → has_number nodes.items n ≡ true → owns page.now w.index n ≡ true }
     requires apart { IsDistinct nat_eq nodes.items }
-    ensures ends { IfOk result (λ o. (l : Loop) (b : Option Bool) → IsSound w store.old page.now l
-        → EndsAt w (beside store.old page.now l b) (beside store.new page.now l b)
-        (λ d t. forms.make_bunch (map (number page.now w) nodes.items) t give) o) }
-    ensures sound { (l : Loop) → IsSound w store.old page.now l → IsSound w store.new page.now l }
-    ensures kept { KeepsStore w store.old store.new }
+    ensures ends { IfOk result (λ o. (l : Loop) (b : Option Bool) → IsSound w.index store.old page.now l
+        → EndsAt w.index (beside store.old page.now l b) (beside store.new page.now l b)
+        (λ d t. forms.make_bunch (map (number page.now w.index) nodes.items) t give) o) }
+    ensures sound { (l : Loop) → IsSound w.index store.old page.now l → IsSound w.index store.new page.now l }
+    ensures kept { KeepsStore w.index store.old store.new }
 {
     match make_bunch(alloc, store, w, page, nodes)? {
         Made::Cell(id) => Ok(NativeOut::Value(Value::Ref(id))),
@@ -130,17 +128,16 @@ pub fn give_bunch(
 pub fn bunch_of_node(
     alloc: Global,
     store: &mut Store,
-    w: u32,
+    w: WidgetId,
     page: &Page,
     node: NodeId,
 ) -> Result<Value, Memory>
-    requires widget { w < 32 }
-    requires sound { (l : Loop) × IsSound w store.old page.now l }
-    requires own { owns page.now w node ≡ true }
-    ensures made { IfOk result (λ v. (l : Loop) → HoldsOwn w store.old page.now l
-        → AreBunches w store.old store.new page.now l (number page.now w node ∷ []) (v ∷ [])) }
-    ensures sound { (l : Loop) → IsSound w store.old page.now l → IsSound w store.new page.now l }
-    ensures kept { KeepsStore w store.old store.new }
+    requires sound { (l : Loop) × IsSound w.index store.old page.now l }
+    requires own { owns page.now w.index node ≡ true }
+    ensures made { IfOk result (λ v. (l : Loop) → HoldsOwn w.index store.old page.now l
+        → AreBunches w.index store.old store.new page.now l (number page.now w.index node ∷ []) (v ∷ [])) }
+    ensures sound { (l : Loop) → IsSound w.index store.old page.now l → IsSound w.index store.new page.now l }
+    ensures kept { KeepsStore w.index store.old store.new }
 {
     let nodes = one_node(alloc, node)?;
     match make_bunch(alloc, store, w, page, nodes)? {
@@ -154,17 +151,16 @@ pub fn bunch_of_node(
 pub fn make_bunches(
     alloc: Global,
     store: &mut Store,
-    w: u32,
+    w: WidgetId,
     page: &Page,
     nodes: &[NodeId],
 ) -> Result<Vec<Value>, Memory>
-    requires widget { w < 32 }
-    requires sound { (l : Loop) × IsSound w store.old page.now l }
-    requires own { (n : ℕ) → has_number nodes.now n ≡ true → owns page.now w n ≡ true }
-    ensures made { IfOk result (λ vs. (l : Loop) → HoldsOwn w store.old page.now l
-        → AreBunches w store.old store.new page.now l (map (number page.now w) nodes.now) vs.items) }
-    ensures sound { (l : Loop) → IsSound w store.old page.now l → IsSound w store.new page.now l }
-    ensures kept { KeepsStore w store.old store.new }
+    requires sound { (l : Loop) × IsSound w.index store.old page.now l }
+    requires own { (n : ℕ) → has_number nodes.now n ≡ true → owns page.now w.index n ≡ true }
+    ensures made { IfOk result (λ vs. (l : Loop) → HoldsOwn w.index store.old page.now l
+        → AreBunches w.index store.old store.new page.now l (map (number page.now w.index) nodes.now) vs.items) }
+    ensures sound { (l : Loop) → IsSound w.index store.old page.now l → IsSound w.index store.new page.now l }
+    ensures kept { KeepsStore w.index store.old store.new }
 {
     let mut values = Vec::new(alloc);
     'each: for node in nodes {

@@ -1,5 +1,5 @@
 //! What natives of the page take before they change anything: a charge, and a cost of one kind.
-ghost use Rattle.std.specs.Prelude.{◌≡◌, ◌<◌, ℕ, List, IfErr, OnOk};
+ghost use Rattle.std.specs.Prelude.{◌≡◌, ℕ, List, IfErr, OnOk};
 ghost use Rattle.js_tree.specs.Forest.{Forest};
 ghost use Rattle.widget_meaning.specs.OwnState.{State};
 ghost use Rattle.widget_meaning.specs.Plan.{Plan, charge};
@@ -14,7 +14,7 @@ ghost use Rattle.native_image.specs.Refines.{FiresAtOwn};
 
 use js_image::{Paid, StopCause, pay_slots, pay_units};
 use js_values::{Meter, NativeOut};
-use native_common::take;
+use native_common::{WidgetId, take};
 use object_store::Store;
 
 /// What a native pays beside its charge.
@@ -30,17 +30,16 @@ pub enum Cost {
 pub fn begin(
     store: &mut Store,
     meter: &mut Meter,
-    w: u32,
+    w: WidgetId,
     extra: usize,
     cost: Cost,
 ) -> Result<(), NativeOut>
-    requires { w < 32 }
     ensures begun { OnOk result ((n : ℕ) (c : Price) → extra ≡ counted n → IsPrice cost c
-        → Begins w store.old store.new meter.old meter.new n c) }
+        → Begins w.index store.old store.new meter.old meter.new n c) }
     ensures refused { IfErr result (λ o. (n : ℕ) (c : Price) (k : ℕ → State → Plan) → extra ≡ counted n → IsPrice cost c
-        → Refines w store.old store.new meter.old meter.new (λ d s. charge n s (pay_for c s (k d))) o) }
+        → Refines w.index store.old store.new meter.old meter.new (λ d s. charge n s (pay_for c s (k d))) o) }
     ensures fires { IfErr result (λ o. (v : ℕ) (h : Parts) → FiresAtOwn v h o) }
-    ensures kept { (fs : List Forest) → Kept fs w store.old store.new }
+    ensures kept { (fs : List Forest) → Kept fs w.index store.old store.new }
 {
     match take(meter, extra) {
         Ok(()) => match pay(store, w, cost) {
@@ -52,28 +51,26 @@ pub fn begin(
 }
 
 // Pays a cost.
-fn pay(store: &mut Store, w: u32, cost: Cost) -> Paid
-    requires { w < 32 }
+fn pay(store: &mut Store, w: WidgetId, cost: Cost) -> Paid
     ensures plan { (c : Price) → IsPrice cost c → (fs : List Forest) (r : Rest) (k : State → Plan)
-        → pay_for c (image fs r w store.old) k ≡ paid_plan result k (image fs r w store.new) }
-    ensures kept { (fs : List Forest) → Kept fs w store.old store.new }
+        → pay_for c (image fs r w.index store.old) k ≡ paid_plan result k (image fs r w.index store.new) }
+    ensures kept { (fs : List Forest) → Kept fs w.index store.old store.new }
 {
     match cost {
         Cost::Nothing => Paid::Done,
         Cost::Units(n) => pay_counted(store, w, n),
-        Cost::Slots(n) => pay_slots(store, w, n),
+        Cost::Slots(n) => pay_slots(store, w.index, n),
     }
 }
 
 // Pays for units of text that were counted: 2^32 or more are over all that a widget may have.
-fn pay_counted(store: &mut Store, w: u32, units: usize) -> Paid
-    requires { w < 32 }
+fn pay_counted(store: &mut Store, w: WidgetId, units: usize) -> Paid
     ensures plan { (n : ℕ) → units ≡ counted n → (fs : List Forest) (r : Rest) (k : State → Plan)
-        → pay_for (OfUnits n) (image fs r w store.old) k ≡ paid_plan result k (image fs r w store.new) }
-    ensures kept { (fs : List Forest) → Kept fs w store.old store.new }
+        → pay_for (OfUnits n) (image fs r w.index store.old) k ≡ paid_plan result k (image fs r w.index store.new) }
+    ensures kept { (fs : List Forest) → Kept fs w.index store.old store.new }
 {
     match u32::try_from(units) {
-        Ok(few) => pay_units(store, w, few),
+        Ok(few) => pay_units(store, w.index, few),
         Err(_) => Paid::Stop(StopCause::Units),
     }
 }

@@ -1,5 +1,5 @@
 //! What natives of the page give.
-ghost use Rattle.std.specs.Prelude.{◌≡◌, ◌<◌, ℕ};
+ghost use Rattle.std.specs.Prelude.{◌≡◌, ℕ};
 ghost use Rattle.store_cells.specs.Cells.{Cells};
 ghost use Rattle.widget_meaning.specs.BunchReads as means;
 ghost use Rattle.widget_meaning.specs.Costs as costs;
@@ -15,20 +15,19 @@ ghost use Rattle.native_image.specs.Refines.{FiresAtOwn};
 use code_units::Text;
 use js_image::{Paid, pay_text};
 use js_values::{Meter, NativeOut};
-use native_common::take;
+use native_common::{WidgetId, take};
 use object_store::{Store, Value};
 
 /// A text that is made and given, with this extra.
 pub fn give_page_text(
     store: &mut Store,
     meter: &mut Meter,
-    w: u32,
+    w: WidgetId,
     extra: usize,
     text: Text,
 ) -> NativeOut
-    requires { w < 32 }
     ensures native { (n : ℕ) → extra ≡ counted n
-        → Refines w store.old store.new meter.old meter.new (λ d s. means.give_page_text n text s) result }
+        → Refines w.index store.old store.new meter.old meter.new (λ d s. means.give_page_text n text s) result }
     ensures fires { (v : ℕ) (h : Parts) → FiresAtOwn v h result }
 {
     match take(meter, extra) {
@@ -38,12 +37,11 @@ pub fn give_page_text(
 }
 
 /// A text that is made costs its units, and is given.
-pub fn make_text(store: &mut Store, w: u32, text: Text) -> NativeOut
-    requires { w < 32 }
-    ensures ends { Ends w store.old store.new (λ d s. costs.make_text text s (give (Meant text))) result }
+pub fn make_text(store: &mut Store, w: WidgetId, text: Text) -> NativeOut
+    ensures ends { Ends w.index store.old store.new (λ d s. costs.make_text text s (give (Meant text))) result }
     ensures fires { (v : ℕ) (h : Parts) → FiresAtOwn v h result }
 {
-    match pay_text(store, w, &text) {
+    match pay_text(store, w.index, &text) {
         Paid::Done => NativeOut::Value(Value::Text(text)),
         Paid::Stop(cause) => NativeOut::Stop(cause),
     }

@@ -4,15 +4,16 @@ ghost use Rattle.plain_tree.specs.Plains.{unplaced};
 ghost use Rattle.plain_tree.specs.Trees.{size};
 ghost use Rattle.js_tree.specs.Forest.{Forest};
 ghost use Rattle.object_store.specs.Owned.{owned};
-ghost use Rattle.tree_ops.specs.Trees.{copied, numbered, subtree};
+ghost use Rattle.tree_ops.specs.Trees.{numbered};
 ghost use Rattle.event_loop.specs.declared.around.Loop.{Loop};
 ghost use Rattle.js_image.specs.Held.{Kept};
-ghost use Rattle.page_image.specs.Image.{forest, number, own, owns};
+ghost use Rattle.page_image.specs.Image.{own, owns};
 ghost use Rattle.page_image.specs.Stays.{HostStays, KeepsNodes, OthersStay};
-ghost use Rattle.native_image.specs.Grown.{IsGrown};
+ghost use Rattle.native_image.specs.Grown.{IsCopied, IsGrown};
 ghost use Rattle.native_image.specs.Sound.{HasRaw, HoldsOwn, IsSound, KeepsAll};
 
 use code_units::{Memory, Owner};
+use native_common::WidgetId;
 use object_store::{NODE_LIMIT, Store};
 use page_image::made;
 use page_tree::{NodeId, Page};
@@ -50,28 +51,25 @@ fn add_cells(alloc: Global, store: &mut Store, first: NodeId, many: u32) -> Resu
 }
 
 // Adds a plain tree of a widget behind all its other trees.
-fn add_plain(alloc: Global, page: &mut Page, w: u32, plain: &Plain) -> Result<NodeId, Memory>
-    requires { w < 32 }
-    ensures grown { IfOk result (λ id. IsGrown w page.old page.new id (size (unplaced plain.now))
-        (numbered (length (own page.old w)) (unplaced plain.now))) }
+fn add_plain(alloc: Global, page: &mut Page, w: WidgetId, plain: &Plain) -> Result<NodeId, Memory>
+    ensures grown { IfOk result (λ id. IsGrown w.index page.old page.new id (size (unplaced plain.now))
+        (numbered (length (own page.old w.index)) (unplaced plain.now))) }
     ensures kept { OnErr result (KeepsNodes page.old page.new) }
-    ensures others { OnErr result (OthersStay page.old page.new w) }
+    ensures others { OnErr result (OthersStay page.old page.new w.index) }
     ensures host { OnErr result (HostStays page.old page.new) }
 {
-    match page.add(alloc, Owner::Widget(w), plain) {
+    match page.add(alloc, Owner::Widget(w.index), plain) {
         Ok(id) => Ok(id),
         Err(_) => Err(Memory),
     }
 }
 
 // Adds a copy of a widget's node, with all below it, behind all its other trees.
-fn copy_plain(alloc: Global, page: &mut Page, w: u32, node: NodeId) -> Result<NodeId, Memory>
-    requires { owns page.old w node ≡ true }
-    ensures grown { IfOk result
-        (λ id. IsGrown w page.old page.new id (size (subtree (number page.old w node) (forest page.old w)))
-        (numbered (length (own page.old w)) (copied (subtree (number page.old w node) (forest page.old w))))) }
+fn copy_plain(alloc: Global, page: &mut Page, w: WidgetId, node: NodeId) -> Result<NodeId, Memory>
+    requires { owns page.old w.index node ≡ true }
+    ensures grown { IfOk result (λ id. IsCopied w.index page.old page.new id node) }
     ensures kept { OnErr result (KeepsNodes page.old page.new) }
-    ensures others { OnErr result (OthersStay page.old page.new w) }
+    ensures others { OnErr result (OthersStay page.old page.new w.index) }
     ensures host { OnErr result (HostStays page.old page.new) }
 {
     match page.copy(alloc, node) {
@@ -86,20 +84,21 @@ pub fn add_tree(
     alloc: Global,
     store: &mut Store,
     page: &mut Page,
-    w: u32,
+    w: WidgetId,
     plain: &Plain,
 ) -> Result<NodeId, Memory>
-    requires { w < 32 }
-    ensures grown { IfOk result (λ id. IsGrown w page.old page.new id (size (unplaced plain.now))
-        (numbered (length (own page.old w)) (unplaced plain.now))) }
-    ensures sound { OnOk result ((l : Loop) → IsSound w store.old page.old l → IsSound w store.new page.new l) }
+    ensures grown { IfOk result (λ id. IsGrown w.index page.old page.new id (size (unplaced plain.now))
+        (numbered (length (own page.old w.index)) (unplaced plain.now))) }
+    ensures sound { OnOk result ((l : Loop) → IsSound w.index store.old page.old l
+        → IsSound w.index store.new page.new l) }
     ensures same { (v : ℕ) → owned v store.new ≡ owned v store.old }
-    ensures store { (fs : List Forest) → Kept fs w store.old store.new }
-    ensures kept { (l : Loop) → HoldsOwn w store.old page.old l → KeepsAll w store.old store.new page.old page.new l }
+    ensures store { (fs : List Forest) → Kept fs w.index store.old store.new }
+    ensures kept { (l : Loop) → HoldsOwn w.index store.old page.old l
+        → KeepsAll w.index store.old store.new page.old page.new l }
 {
-    let before = made(page, w);
+    let before = made(page, w.index);
     let id = add_plain(alloc, page, w, plain)?;
-    let many = made(page, w) - before;
+    let many = made(page, w.index) - before;
     add_cells(alloc, store, id, many)?;
     Ok(id)
 }
@@ -109,22 +108,21 @@ pub fn copy_tree(
     alloc: Global,
     store: &mut Store,
     page: &mut Page,
-    w: u32,
+    w: WidgetId,
     node: NodeId,
 ) -> Result<NodeId, Memory>
-    requires widget { w < 32 }
-    requires own { owns page.old w node ≡ true }
-    ensures grown { IfOk result
-        (λ id. IsGrown w page.old page.new id (size (subtree (number page.old w node) (forest page.old w)))
-        (numbered (length (own page.old w)) (copied (subtree (number page.old w node) (forest page.old w))))) }
-    ensures sound { OnOk result ((l : Loop) → IsSound w store.old page.old l → IsSound w store.new page.new l) }
+    requires { owns page.old w.index node ≡ true }
+    ensures grown { IfOk result (λ id. IsCopied w.index page.old page.new id node) }
+    ensures sound { OnOk result ((l : Loop) → IsSound w.index store.old page.old l
+        → IsSound w.index store.new page.new l) }
     ensures same { (v : ℕ) → owned v store.new ≡ owned v store.old }
-    ensures store { (fs : List Forest) → Kept fs w store.old store.new }
-    ensures kept { (l : Loop) → HoldsOwn w store.old page.old l → KeepsAll w store.old store.new page.old page.new l }
+    ensures store { (fs : List Forest) → Kept fs w.index store.old store.new }
+    ensures kept { (l : Loop) → HoldsOwn w.index store.old page.old l
+        → KeepsAll w.index store.old store.new page.old page.new l }
 {
-    let before = made(page, w);
+    let before = made(page, w.index);
     let id = copy_plain(alloc, page, w, node)?;
-    let many = made(page, w) - before;
+    let many = made(page, w.index) - before;
     add_cells(alloc, store, id, many)?;
     Ok(id)
 }

@@ -1,5 +1,5 @@
 //! New nodes that are given in a Bunch.
-ghost use Rattle.std.specs.Prelude.{◌≡◌, ◌<◌, ℕ, List, Bool, Option, IfOk, OnOk};
+ghost use Rattle.std.specs.Prelude.{◌≡◌, ℕ, List, Bool, Option, IfOk, OnOk};
 ghost use Rattle.js_tree.specs.Forest.{Forest};
 ghost use Rattle.plain_tree.specs.Plains.{unplaced};
 ghost use Rattle.plain_tree.specs.Trees.{End, Label, Node};
@@ -20,6 +20,7 @@ use crate::weighing::{Bill, settle, weigh};
 use code_units::Memory;
 use js_image::{Paid, pay_units};
 use js_values::NativeOut;
+use native_common::WidgetId;
 use object_store::{Store, Value};
 use page_tree::Page;
 use plain_tree::Plain;
@@ -27,15 +28,14 @@ use std::alloc::Global;
 
 /// Pays for units of text that were judged before. Where they cannot be paid, it is answered like
 /// want of memory.
-pub fn pay_judged(store: &mut Store, w: u32, units: u32) -> Result<(), Memory>
-    requires { w < 32 }
-    ensures paid { OnOk result ((p : Page) (l : Loop) → HoldsOwn w store.old p l
+pub fn pay_judged(store: &mut Store, w: WidgetId, units: u32) -> Result<(), Memory>
+    ensures paid { OnOk result ((p : Page) (l : Loop) → HoldsOwn w.index store.old p l
         → (fs : List Forest) (x : Outside) (b : Option Bool) (c : Amounts)
-        → with_counts (image fs x w (beside store.new p l b)) c
-        ≡ with_counts (image fs x w (beside store.old p l b)) c) }
-    ensures kept { (fs : List Forest) → Kept fs w store.old store.new }
+        → with_counts (image fs x w.index (beside store.new p l b)) c
+        ≡ with_counts (image fs x w.index (beside store.old p l b)) c) }
+    ensures kept { (fs : List Forest) → Kept fs w.index store.old store.new }
 {
-    match pay_units(store, w, units) {
+    match pay_units(store, w.index, units) {
         Paid::Done => Ok(()),
         Paid::Stop(_) => Err(Memory),
     }
@@ -47,17 +47,17 @@ pub fn give_node(
     alloc: Global,
     store: &mut Store,
     page: &mut Page,
-    w: u32,
+    w: WidgetId,
     plain: &Plain,
     units: usize,
 ) -> Result<NativeOut, Memory>
-    requires widget { w < 32 }
-    requires sound { (l : Loop) × IsSound w store.old page.old l }
+    requires { (l : Loop) × IsSound w.index store.old page.old l }
     ensures ends { IfOk result (λ o. (l : Loop) (b : Option Bool) (label : Label) (u : ℕ)
-        → unplaced plain.now ≡ Node tt label End End → units ≡ counted u → IsSound w store.old page.old l
-        → EndsAt w (beside store.old page.old l b) (beside store.new page.new l b)
+        → unplaced plain.now ≡ Node tt label End End → units ≡ counted u → IsSound w.index store.old page.old l
+        → EndsAt w.index (beside store.old page.old l b) (beside store.new page.new l b)
         (λ d s. means.give_node label u s) o) }
-    ensures kept { (l : Loop) → IsSound w store.old page.old l → KeepsAll w store.old store.new page.old page.new l }
+    ensures kept { (l : Loop) → IsSound w.index store.old page.old l
+        → KeepsAll w.index store.old store.new page.old page.new l }
 {
     let bill = Bill {
         units,
@@ -80,16 +80,17 @@ fn make_node(
     alloc: Global,
     store: &mut Store,
     page: &mut Page,
-    w: u32,
+    w: WidgetId,
     plain: &Plain,
     units: u32,
 ) -> Result<Value, Memory>
-    requires widget { w < 32 }
-    requires sound { (l : Loop) × IsSound w store.old page.old l }
+    requires { (l : Loop) × IsSound w.index store.old page.old l }
     ensures made { IfOk result (λ v. (l : Loop) (label : Label) → unplaced plain.now ≡ Node tt label End End
-        → HoldsOwn w store.old page.old l → IsNode w store.old store.new page.old page.new l label v) }
-    ensures sound { OnOk result ((l : Loop) → IsSound w store.old page.old l → IsSound w store.new page.new l) }
-    ensures kept { (l : Loop) → IsSound w store.old page.old l → KeepsAll w store.old store.new page.old page.new l }
+        → HoldsOwn w.index store.old page.old l → IsNode w.index store.old store.new page.old page.new l label v) }
+    ensures sound { OnOk result ((l : Loop) → IsSound w.index store.old page.old l
+        → IsSound w.index store.new page.new l) }
+    ensures kept { (l : Loop) → IsSound w.index store.old page.old l
+        → KeepsAll w.index store.old store.new page.old page.new l }
 {
     pay_judged(store, w, units)?;
     let node = add_tree(alloc, store, page, w, plain)?;

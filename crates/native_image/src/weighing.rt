@@ -1,5 +1,5 @@
 //! Costs of several kinds, which are judged as one before anything is made.
-ghost use Rattle.std.specs.Prelude.{◌≡◌, ◌<◌, ◌≤◌, ℕ, List, Bool, Option, true, IfErr, IfOk, OnOk};
+ghost use Rattle.std.specs.Prelude.{◌≡◌, ◌≤◌, ℕ, List, Bool, Option, true, IfErr, IfOk, OnOk};
 ghost use Rattle.js_tree.specs.Forest.{Forest};
 ghost use Rattle.widget_meaning.specs.OwnState.{State};
 ghost use Rattle.widget_meaning.specs.Plan.{Halt, Plan};
@@ -12,6 +12,7 @@ ghost use Rattle.native_image.specs.Weights.{amounts};
 
 use code_units::{Memory, Owner};
 use js_image::StopCause;
+use native_common::WidgetId;
 use object_store::{CELL_LIMIT, SLOT_LIMIT, Store, UNIT_LIMIT};
 use page_image::made;
 use page_tree::Page;
@@ -36,20 +37,19 @@ pub struct Due {
 
 /// What a widget has paid once a whole cost is paid, or the stop: units, cells, slots and nodes are
 /// judged in this order. Nothing is paid.
-pub fn weigh(store: &Store, page: &Page, w: u32, bill: Bill) -> Result<Due, StopCause>
-    requires { w < 32 }
+pub fn weigh(store: &Store, page: &Page, w: WidgetId, bill: Bill) -> Result<Due, StopCause>
     ensures fits { OnOk result (bill.units ≤ 2097152) }
     ensures due { IfOk result (λ due. (u m : ℕ) → bill.units ≡ counted u → bill.nodes ≡ counted m
         → (fs : List Forest) (x : Outside) (l : Loop) (b : Option Bool) (k : State → Plan)
-        → costs.pay (costs.cost u bill.cells bill.slots m) (image fs x w (beside store.now page.now l b)) k
-        ≡ k (costs.with_counts (image fs x w (beside store.now page.now l b)) (amounts due))) }
+        → costs.pay (costs.cost u bill.cells bill.slots m) (image fs x w.index (beside store.now page.now l b)) k
+        ≡ k (costs.with_counts (image fs x w.index (beside store.now page.now l b)) (amounts due))) }
     ensures stop { IfErr result (λ c. (u m : ℕ) → bill.units ≡ counted u → bill.nodes ≡ counted m
         → (fs : List Forest) (x : Outside) (l : Loop) (b : Option Bool) (k : State → Plan)
-        → costs.pay (costs.cost u bill.cells bill.slots m) (image fs x w (beside store.now page.now l b)) k
-        ≡ Halt (meant_cause c) (image fs x w (beside store.now page.now l b))) }
+        → costs.pay (costs.cost u bill.cells bill.slots m) (image fs x w.index (beside store.now page.now l b)) k
+        ≡ Halt (meant_cause c) (image fs x w.index (beside store.now page.now l b))) }
 {
-    let paid = store.counts(Owner::Widget(w));
-    let nodes = made(page, w);
+    let paid = store.counts(Owner::Widget(w.index));
+    let nodes = made(page, w.index);
     if bill.units > (UNIT_LIMIT - paid.units) as usize {
         return Err(StopCause::Units);
     }
@@ -74,17 +74,16 @@ pub fn weigh(store: &Store, page: &Page, w: u32, bill: Bill) -> Result<Due, Stop
 const MOST_NODES: u32 = 16384;
 
 // What a widget has paid.
-fn so_far(store: &Store, page: &Page, w: u32) -> Due
-    requires { w < 32 }
+fn so_far(store: &Store, page: &Page, w: WidgetId) -> Due
     ensures { (fs : List Forest) (x : Outside) (l : Loop) (b : Option Bool)
-        → (image fs x w (beside store.now page.now l b)).own.counts ≡ amounts result }
+        → (image fs x w.index (beside store.now page.now l b)).own.counts ≡ amounts result }
 {
-    let paid = store.counts(Owner::Widget(w));
+    let paid = store.counts(Owner::Widget(w.index));
     Due {
         units: paid.units,
         cells: paid.cells,
         slots: paid.slots,
-        nodes: made(page, w),
+        nodes: made(page, w.index),
     }
 }
 
@@ -105,10 +104,9 @@ fn is_due(a: Due, b: Due) -> bool
 }
 
 /// What was made is what was judged. Where it is not, it is answered like want of memory.
-pub fn settle(store: &Store, page: &Page, w: u32, due: Due) -> Result<(), Memory>
-    requires { w < 32 }
+pub fn settle(store: &Store, page: &Page, w: WidgetId, due: Due) -> Result<(), Memory>
     ensures { OnOk result ((fs : List Forest) (x : Outside) (l : Loop) (b : Option Bool)
-        → (image fs x w (beside store.now page.now l b)).own.counts ≡ amounts due) }
+        → (image fs x w.index (beside store.now page.now l b)).own.counts ≡ amounts due) }
 {
     if is_due(so_far(store, page, w), due) {
         return Ok(());

@@ -14,10 +14,11 @@ ghost use Rattle.natives.specs.Reach.{reach};
 
 use crate::rooms::{Room, room_of};
 use crate::timers::start;
-use code_units::{Memory, Owner, Text};
+use code_units::{Memory, Text};
 use event_loop::Loop;
 use js_flow::NativeCall;
 use js_values::{Meter, NativeOut};
+use native_common::WidgetId;
 use object_store::{NativeId, Store, Value};
 use page_tree::Page;
 use std::alloc::Global;
@@ -51,10 +52,11 @@ pub fn call(
         meter.old meter.new (plan_of w store.old.cells native.now) o) }
     ensures kept { KeepsAll w store.old store.new page.old page.new around.new }
 {
+    let id = WidgetId { index: w };
     let plain = Value::Ref(GLOBAL);
-    let this = receiver_of(store, w, &native.this, &plain);
+    let this = receiver_of(store, id, &native.this, &plain);
     call_on(
-        alloc, native, this, store, meter, w, page, around, bubbled, log, posts,
+        alloc, native, this, store, meter, id, page, around, bubbled, log, posts,
     )
 }
 
@@ -65,39 +67,35 @@ fn call_on(
     this: &Value,
     store: &mut Store,
     meter: &mut Meter,
-    w: u32,
+    w: WidgetId,
     page: &mut Page,
     around: &mut Loop,
     bubbled: &mut Option<bool>,
     log: &mut Vec<Text>,
     posts: &mut Vec<(Text, Text)>,
 ) -> Result<NativeOut, Memory>
-    requires widget { w < 32 }
-    requires confined { (fs : List Forest) × IsConfined fs w store.old }
-    requires sound { IsSound w store.old page.old around.old }
-    requires receiver { IsReceiver w store.old.cells this.now }
-    requires args { AreFine w store.old.cells native.now.args.items }
-    ensures native { IfOk result (λ o. RefinesWhole w
+    requires confined { (fs : List Forest) × IsConfined fs w.index store.old }
+    requires sound { IsSound w.index store.old page.old around.old }
+    requires receiver { IsReceiver w.index store.old.cells this.now }
+    requires args { AreFine w.index store.old.cells native.now.args.items }
+    ensures native { IfOk result (λ o. RefinesWhole w.index
         (reach store.old page.old around.old bubbled.old log.old.items posts.old.items)
         (reach store.new page.new around.new bubbled.new log.new.items posts.new.items)
-        meter.old meter.new (run_native native.now.which (receiver w store.old.cells this.now)
-        (all_seen w store.old.cells native.now.args.items)) o) }
-    ensures kept { KeepsAll w store.old store.new page.old page.new around.new }
+        meter.old meter.new (run_native native.now.which (receiver w.index store.old.cells this.now)
+        (all_seen w.index store.old.cells native.now.args.items)) o) }
+    ensures kept { KeepsAll w.index store.old store.new page.old page.new around.new }
 {
     let which = native.which;
     let args = native.args.as_slice();
-    let owner = Owner::Widget(w);
     match room_of(which) {
-        Room::Texts => text_methods::call(alloc, which, this, args, store, meter, owner),
-        Room::Lists => list_methods::call(alloc, which, this, args, store, meter, owner),
+        Room::Texts => text_methods::call(alloc, which, this, args, store, meter, w),
+        Room::Lists => list_methods::call(alloc, which, this, args, store, meter, w),
         Room::Adsafe => adsafe_native(
             alloc, which, this, args, store, meter, w, around, log, posts,
         ),
-        Room::Reads => bunch_read::call(
-            alloc, which, this, args, store, meter, owner, page, around,
-        ),
+        Room::Reads => bunch_read::call(alloc, which, this, args, store, meter, w, page, around),
         Room::Writes => bunch_write::call(
-            alloc, which, this, args, store, meter, owner, page, around, bubbled,
+            alloc, which, this, args, store, meter, w, page, around, bubbled,
         ),
     }
 }
@@ -110,38 +108,28 @@ fn adsafe_native(
     args: &[Value],
     store: &mut Store,
     meter: &mut Meter,
-    w: u32,
+    w: WidgetId,
     around: &mut Loop,
     log: &mut Vec<Text>,
     posts: &mut Vec<(Text, Text)>,
 ) -> Result<NativeOut, Memory>
     requires part { adsafe.is_part which ≡ true }
-    requires widget { w < 32 }
-    requires confined { (fs : List Forest) × IsConfined fs w store.old }
-    requires receiver { IsReceiver w store.old.cells this.now }
-    requires args { AreFine w store.old.cells args.now }
-    ensures native { IfOk result (λ o. (p : PageTree) (b : Option Bool) → IsSound w store.old p around.old
-        → RefinesWhole w
+    requires confined { (fs : List Forest) × IsConfined fs w.index store.old }
+    requires receiver { IsReceiver w.index store.old.cells this.now }
+    requires args { AreFine w.index store.old.cells args.now }
+    ensures native { IfOk result (λ o. (p : PageTree) (b : Option Bool) → IsSound w.index store.old p around.old
+        → RefinesWhole w.index
         (reach store.old p around.old b log.old.items posts.old.items)
         (reach store.new p around.new b log.new.items posts.new.items)
-        meter.old meter.new (run_native which (receiver w store.old.cells this.now)
-        (all_seen w store.old.cells args.now)) o) }
-    ensures kept { (p : PageTree) → IsSound w store.old p around.old → KeepsAll w store.old store.new p p around.new }
+        meter.old meter.new (run_native which (receiver w.index store.old.cells this.now)
+        (all_seen w.index store.old.cells args.now)) o) }
+    ensures kept { (p : PageTree) → IsSound w.index store.old p around.old
+        → KeepsAll w.index store.old store.new p p around.new }
 {
     let waiting = around.waiting();
     let mut asked = None;
     let out = adsafe_object::call(
-        alloc,
-        which,
-        this,
-        args,
-        store,
-        meter,
-        Owner::Widget(w),
-        log,
-        waiting,
-        &mut asked,
-        posts,
+        alloc, which, this, args, store, meter, w, log, waiting, &mut asked, posts,
     )?;
     start(around, asked)?;
     Ok(out)

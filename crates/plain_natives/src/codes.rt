@@ -1,5 +1,5 @@
 //! `String.fromCharCode` (ECMA-262 3rd edition, 15.5.3.2).
-ghost use Rattle.std.specs.Prelude.{◌≡◌, ◌<◌, ℕ, List, IfOk, OnErr, map};
+ghost use Rattle.std.specs.Prelude.{◌≡◌, ℕ, List, IfOk, OnErr, map};
 ghost use Rattle.std.specs.List.{list_any};
 ghost use Rattle.js_tree.specs.Forest.{Forest};
 ghost use Rattle.store_cells.specs.Cells.{PlainCell};
@@ -11,7 +11,7 @@ ghost use Rattle.native_common.specs.Refines.{Refines};
 
 use code_units::{Memory, Text, WholeRead};
 use js_values::{Fault, Meter, NativeOut, StopCause};
-use native_common::{all_units_read, any_object, charged, give_text, read_number};
+use native_common::{WidgetId, all_units_read, any_object, charged, give_text, read_number};
 use object_store::{Store, Value};
 use std::alloc::Global;
 
@@ -21,12 +21,11 @@ pub fn from_char_code(
     args: &[Value],
     store: &mut Store,
     meter: &mut Meter,
-    w: u32,
+    w: WidgetId,
 ) -> Result<NativeOut, Memory>
-    requires widget { w < 32 }
-    ensures native { IfOk result (λ o. Refines w store.old store.new meter.old meter.new
-        (λ d s. means.from_char_code (all_seen w store.old.cells args.now) s) o) }
-    ensures memory { OnErr result ((fs : List Forest) → Kept fs w store.old store.new) }
+    ensures native { IfOk result (λ o. Refines w.index store.old store.new meter.old meter.new
+        (λ d s. means.from_char_code (all_seen w.index store.old.cells args.now) s) o) }
+    ensures memory { OnErr result ((fs : List Forest) → Kept fs w.index store.old store.new) }
 {
     if any_object(args) {
         return Ok(NativeOut::Throw(Fault::E4));

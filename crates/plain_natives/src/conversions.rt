@@ -1,6 +1,6 @@
 //! The natives among the listed globals (ECMA-262 3rd edition, 15.1.2, 15.5.1 to 15.5.3, 15.6.1 and
 //! 15.7.1).
-ghost use Rattle.std.specs.Prelude.{◌≡◌, ◌<◌, ℕ, List, IfOk, OnErr, None};
+ghost use Rattle.std.specs.Prelude.{◌≡◌, ℕ, List, IfOk, OnErr, None};
 ghost use Rattle.js_tree.specs.Forest.{Forest};
 ghost use Rattle.store_cells.specs.Cells.{Cells};
 ghost use Rattle.widget_meaning.specs.GlobalNatives as means;
@@ -16,8 +16,8 @@ use crate::numerals::parsed;
 use code_units::{Memory, Text, WholeRead};
 use js_values::{Fault, Meter, NativeOut, OpOut, Plan, StopCause, is_true};
 use native_common::{
-    charged, either_object, give_text, given, is_object, nth, number_or, read_number, read_text,
-    text_len, units_read,
+    WidgetId, charged, either_object, give_text, given, is_object, nth, number_or, read_number,
+    read_text, text_len, units_read,
 };
 use object_store::{GlobalNative, Number, Store, Value};
 use std::alloc::Global;
@@ -29,13 +29,12 @@ pub fn global_native(
     args: &[Value],
     store: &mut Store,
     meter: &mut Meter,
-    w: u32,
+    w: WidgetId,
 ) -> Result<NativeOut, Memory>
-    requires widget { w < 32 }
-    requires args { AreFine w store.old.cells args.now }
-    ensures native { IfOk result (λ o. Refines w store.old store.new meter.old meter.new
-        (means.global_native which None (all_seen w store.old.cells args.now)) o) }
-    ensures memory { OnErr result ((fs : List Forest) → Kept fs w store.old store.new) }
+    requires { AreFine w.index store.old.cells args.now }
+    ensures native { IfOk result (λ o. Refines w.index store.old store.new meter.old meter.new
+        (means.global_native which None (all_seen w.index store.old.cells args.now)) o) }
+    ensures memory { OnErr result ((fs : List Forest) → Kept fs w.index store.old store.new) }
 {
     let absent = Value::Undefined;
     let first = nth(args, 0, &absent);
@@ -126,13 +125,12 @@ fn string_native(
     args: &[Value],
     store: &mut Store,
     meter: &mut Meter,
-    w: u32,
+    w: WidgetId,
 ) -> Result<NativeOut, Memory>
-    requires widget { w < 32 }
-    requires args { AreFine w store.old.cells args.now }
-    ensures native { IfOk result (λ o. Refines w store.old store.new meter.old meter.new
-        (λ d s. means.string_native (all_seen w store.old.cells args.now) d s) o) }
-    ensures memory { OnErr result ((fs : List Forest) → Kept fs w store.old store.new) }
+    requires { AreFine w.index store.old.cells args.now }
+    ensures native { IfOk result (λ o. Refines w.index store.old store.new meter.old meter.new
+        (λ d s. means.string_native (all_seen w.index store.old.cells args.now) d s) o) }
+    ensures memory { OnErr result ((fs : List Forest) → Kept fs w.index store.old store.new) }
 {
     match args.first() {
         Some(v) => string(alloc, v, store, meter, w),
@@ -149,13 +147,12 @@ fn string(
     v: &Value,
     store: &mut Store,
     meter: &mut Meter,
-    w: u32,
+    w: WidgetId,
 ) -> Result<NativeOut, Memory>
-    requires widget { w < 32 }
-    requires arg { IsFine w store.old.cells v.now }
-    ensures native { IfOk result (λ o. Refines w store.old store.new meter.old meter.new
-        (λ d s. means.string_of (seen w store.old.cells v.now) d s) o) }
-    ensures memory { OnErr result ((fs : List Forest) → Kept fs w store.old store.new) }
+    requires { IsFine w.index store.old.cells v.now }
+    ensures native { IfOk result (λ o. Refines w.index store.old store.new meter.old meter.new
+        (λ d s. means.string_of (seen w.index store.old.cells v.now) d s) o) }
+    ensures memory { OnErr result ((fs : List Forest) → Kept fs w.index store.old store.new) }
 {
     match v {
         Value::Ref(i) => Ok(NativeOut::Call(Plan::ToText(*i))),

@@ -13,8 +13,9 @@ ghost use Rattle.store_natives.specs.Rooms.{store_room};
 use crate::carrying::carried;
 use crate::receiving::{GLOBAL, receiver_of};
 use crate::rooms::{StoreRoom, store_room};
-use code_units::{Memory, Owner};
+use code_units::Memory;
 use js_values::{Meter, NativeOut};
+use native_common::WidgetId;
 use object_store::{NativeId, Store, Value};
 use std::alloc::Global;
 
@@ -43,12 +44,13 @@ pub fn call(
     ensures spent { IfOk result (λ o. meter.new.left + meter.new.spent ≡ meter.old.left + meter.old.spent) }
     ensures kept { (fs : List Forest) → Kept fs w store.old store.new }
 {
+    let id = WidgetId { index: w };
     let Some(room) = store_room(which) else {
         return Ok(None);
     };
     let plain = Value::Ref(GLOBAL);
-    let this = receiver_of(store, w, this, &plain);
-    let out = call_in(room, alloc, w, which, this, args, store, meter)?;
+    let this = receiver_of(store, id, this, &plain);
+    let out = call_in(room, alloc, id, which, this, args, store, meter)?;
     Ok(carried(out))
 }
 
@@ -56,7 +58,7 @@ pub fn call(
 fn call_in(
     room: StoreRoom,
     alloc: Global,
-    w: u32,
+    w: WidgetId,
     which: NativeId,
     this: &Value,
     args: &[Value],
@@ -64,18 +66,16 @@ fn call_in(
     meter: &mut Meter,
 ) -> Result<NativeOut, Memory>
     requires room { store_room which ≡ Some room }
-    requires widget { w < 32 }
-    requires confined { (fs : List Forest) × IsConfined fs w store.old }
-    requires receiver { IsReceiver w store.old.cells this.now }
-    requires args { AreFine w store.old.cells args.now }
-    ensures native { IfOk result (RefinesSilent w store.old store.new meter.old meter.new
-        (run_native which (receiver w store.old.cells this.now) (all_seen w store.old.cells args.now))) }
-    ensures memory { OnErr result ((fs : List Forest) → Kept fs w store.old store.new) }
+    requires confined { (fs : List Forest) × IsConfined fs w.index store.old }
+    requires receiver { IsReceiver w.index store.old.cells this.now }
+    requires args { AreFine w.index store.old.cells args.now }
+    ensures native { IfOk result (RefinesSilent w.index store.old store.new meter.old meter.new
+        (run_native which (receiver w.index store.old.cells this.now) (all_seen w.index store.old.cells args.now))) }
+    ensures memory { OnErr result ((fs : List Forest) → Kept fs w.index store.old store.new) }
 {
-    let owner = Owner::Widget(w);
     match room {
-        StoreRoom::Texts => text_methods::call(alloc, which, this, args, store, meter, owner),
-        StoreRoom::Lists => list_methods::call(alloc, which, this, args, store, meter, owner),
+        StoreRoom::Texts => text_methods::call(alloc, which, this, args, store, meter, w),
+        StoreRoom::Lists => list_methods::call(alloc, which, this, args, store, meter, w),
         StoreRoom::Adsafe => adsafe_object::call_silent(alloc, w, which, this, args, store, meter),
     }
 }

@@ -6,6 +6,7 @@ ghost use Rattle.js_image.specs.Held.{IsFine};
 ghost use Rattle.js_image.specs.Image.{seen};
 ghost use Rattle.native_common.specs.Receivers.{IsReceiver, receiver};
 
+use native_common::WidgetId;
 use object_store::{CellId, Store, Value};
 
 /// The place of the Global cell, which stands for no receiver.
@@ -15,14 +16,14 @@ pub const GLOBAL: CellId = 0;
 /// stands for none.
 pub fn receiver_of<'a>(
     store: &Store,
-    w: u32,
+    w: WidgetId,
     this: &'a Option<Value>,
     plain: &'a Value,
 ) -> &'a Value
     requires plain { plain.now ≡ Value.Ref global }
-    requires fine { IfSome this.now (IsFine w store.now.cells) }
-    ensures receiver { IsReceiver w store.now.cells result.now }
-    ensures same { receiver w store.now.cells result.now ≡ option_map (seen w store.now.cells) this.now }
+    requires fine { IfSome this.now (IsFine w.index store.now.cells) }
+    ensures receiver { IsReceiver w.index store.now.cells result.now }
+    ensures same { receiver w.index store.now.cells result.now ≡ option_map (seen w.index store.now.cells) this.now }
 {
     store.host_stays();
     match this {

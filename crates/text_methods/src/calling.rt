@@ -1,7 +1,6 @@
 //! The one call of this crate, and the methods of texts.
-ghost use Rattle.std.specs.Prelude.{◌≡◌, ◌<◌, true, List, IfOk, OnErr};
+ghost use Rattle.std.specs.Prelude.{◌≡◌, true, List, IfOk, OnErr};
 ghost use Rattle.js_tree.specs.Forest.{Forest};
-ghost use Rattle.store_cells.specs.Cells.{IsWidget, number_in};
 ghost use Rattle.widget_meaning.specs.Natives.{run_native};
 ghost use Rattle.widget_meaning.specs.TextNatives as means;
 ghost use Rattle.js_image.specs.Image.{all_seen};
@@ -16,14 +15,14 @@ use crate::making::make_of;
 use crate::prototypes::prototype_native;
 use crate::searching::{index_of, last_index_of};
 use crate::splitting::split;
-use code_units::{Memory, Owner, Text};
+use code_units::{Memory, Text};
 use js_values::{Fault, Meter, NativeOut};
-use native_common::nth;
+use native_common::{WidgetId, nth};
 use object_store::{NativeId, Store, TextNative, Value};
 use plain_natives::{global_native, math_native};
 use std::alloc::Global;
 
-/// A native of this crate, called by a widget: what the meaning gives at the owner's image, for every
+/// A native of this crate, called by a widget: what the meaning gives at the widget's image, for every
 /// receiver and all arguments that the widget may hold. The Global cell as receiver stands for none.
 /// The native's unit was taken before; the call takes the extra. Where fuel is wanting nothing
 /// changes. After `Memory` what others have is as before, and no cell is gone.
@@ -34,40 +33,15 @@ pub fn call(
     args: &[Value],
     store: &mut Store,
     meter: &mut Meter,
-    owner: Owner,
+    w: WidgetId,
 ) -> Result<NativeOut, Memory>
     requires part { is_part which ≡ true }
-    requires widget { IsWidget owner }
-    requires receiver { IsReceiver (number_in owner) store.old.cells this.now }
-    requires args { AreFine (number_in owner) store.old.cells args.now }
-    ensures native { IfOk result (λ o. Refines (number_in owner) store.old store.new meter.old meter.new
-        (run_native which (receiver (number_in owner) store.old.cells this.now)
-        (all_seen (number_in owner) store.old.cells args.now)) o) }
-    ensures memory { OnErr result ((fs : List Forest) → Kept fs (number_in owner) store.old store.new) }
-{
-    match owner {
-        Owner::Host => unreachable!(),
-        Owner::Widget(w) => call_of(alloc, which, this, args, store, meter, w),
-    }
-}
-
-// The same for the number of the owner.
-fn call_of(
-    alloc: Global,
-    which: NativeId,
-    this: &Value,
-    args: &[Value],
-    store: &mut Store,
-    meter: &mut Meter,
-    w: u32,
-) -> Result<NativeOut, Memory>
-    requires part { is_part which ≡ true }
-    requires widget { w < 32 }
-    requires receiver { IsReceiver w store.old.cells this.now }
-    requires args { AreFine w store.old.cells args.now }
-    ensures native { IfOk result (λ o. Refines w store.old store.new meter.old meter.new
-        (run_native which (receiver w store.old.cells this.now) (all_seen w store.old.cells args.now)) o) }
-    ensures memory { OnErr result ((fs : List Forest) → Kept fs w store.old store.new) }
+    requires receiver { IsReceiver w.index store.old.cells this.now }
+    requires args { AreFine w.index store.old.cells args.now }
+    ensures native { IfOk result (λ o. Refines w.index store.old store.new meter.old meter.new
+        (run_native which (receiver w.index store.old.cells this.now)
+        (all_seen w.index store.old.cells args.now)) o) }
+    ensures memory { OnErr result ((fs : List Forest) → Kept fs w.index store.old store.new) }
 {
     match which {
         NativeId::Global(native) => global_native(alloc, native, args, store, meter, w),
@@ -86,13 +60,12 @@ fn text_native(
     args: &[Value],
     store: &mut Store,
     meter: &mut Meter,
-    w: u32,
+    w: WidgetId,
 ) -> Result<NativeOut, Memory>
-    requires widget { w < 32 }
-    ensures native { IfOk result (λ o. Refines w store.old store.new meter.old meter.new
-        (λ d s. means.text_native which (receiver w store.old.cells this.now)
-        (all_seen w store.old.cells args.now) s) o) }
-    ensures memory { OnErr result ((fs : List Forest) → Kept fs w store.old store.new) }
+    ensures native { IfOk result (λ o. Refines w.index store.old store.new meter.old meter.new
+        (λ d s. means.text_native which (receiver w.index store.old.cells this.now)
+        (all_seen w.index store.old.cells args.now) s) o) }
+    ensures memory { OnErr result ((fs : List Forest) → Kept fs w.index store.old store.new) }
 {
     match this {
         Value::Text(t) => text_method(alloc, which, t, args, store, meter, w),
@@ -108,12 +81,11 @@ fn text_method(
     args: &[Value],
     store: &mut Store,
     meter: &mut Meter,
-    w: u32,
+    w: WidgetId,
 ) -> Result<NativeOut, Memory>
-    requires widget { w < 32 }
-    ensures native { IfOk result (λ o. Refines w store.old store.new meter.old meter.new
-        (λ d s. means.text_method which t.now (all_seen w store.old.cells args.now) s) o) }
-    ensures memory { OnErr result ((fs : List Forest) → Kept fs w store.old store.new) }
+    ensures native { IfOk result (λ o. Refines w.index store.old store.new meter.old meter.new
+        (λ d s. means.text_method which t.now (all_seen w.index store.old.cells args.now) s) o) }
+    ensures memory { OnErr result ((fs : List Forest) → Kept fs w.index store.old store.new) }
 {
     let absent = Value::Undefined;
     let first = nth(args, 0, &absent);

@@ -1,5 +1,5 @@
 //! Parts of a text (ECMA-262 3rd edition, 15.5.4.4, 15.5.4.5, 15.5.4.13, 15.5.4.15).
-ghost use Rattle.std.specs.Prelude.{◌≡◌, ◌<◌, ◌≤◌, ℕ, List, IfOk, OnErr, length, pos, slice_range};
+ghost use Rattle.std.specs.Prelude.{◌≡◌, ◌≤◌, ℕ, List, IfOk, OnErr, length, pos, slice_range};
 ghost use Rattle.js_tree.specs.Forest.{Forest};
 ghost use Rattle.store_cells.specs.Cells.{Cells};
 ghost use Rattle.widget_meaning.specs.TextNatives as means;
@@ -13,8 +13,8 @@ ghost use Rattle.text_methods.specs.Choices.{cut, part};
 use code_units::{Memory, Text};
 use js_values::{Fault, Meter, NativeOut, StopCause};
 use native_common::{
-    charged, clamped, either_object, from_end, give_units, is_object, number_or, optional_number,
-    text_len,
+    WidgetId, charged, clamped, either_object, from_end, give_units, is_object, number_or,
+    optional_number, text_len,
 };
 use object_store::{Number, Store, Value};
 use std::alloc::Global;
@@ -26,12 +26,11 @@ pub(crate) fn char_at(
     i: &Value,
     store: &mut Store,
     meter: &mut Meter,
-    w: u32,
+    w: WidgetId,
 ) -> Result<NativeOut, Memory>
-    requires widget { w < 32 }
-    ensures native { IfOk result (λ o. Refines w store.old store.new meter.old meter.new
-        (λ d s. means.char_at t.now (seen w store.old.cells i.now) s) o) }
-    ensures memory { OnErr result ((fs : List Forest) → Kept fs w store.old store.new) }
+    ensures native { IfOk result (λ o. Refines w.index store.old store.new meter.old meter.new
+        (λ d s. means.char_at t.now (seen w.index store.old.cells i.now) s) o) }
+    ensures memory { OnErr result ((fs : List Forest) → Kept fs w.index store.old store.new) }
 {
     if is_object(i) {
         return Ok(NativeOut::Throw(Fault::E4));
@@ -93,12 +92,11 @@ pub(crate) fn cut(
     b: &Value,
     store: &mut Store,
     meter: &mut Meter,
-    w: u32,
+    w: WidgetId,
 ) -> Result<NativeOut, Memory>
-    requires widget { w < 32 }
-    ensures native { IfOk result (λ o. Refines w store.old store.new meter.old meter.new
-        (λ d s. cut slice t.now (seen w store.old.cells a.now) (seen w store.old.cells b.now) s) o) }
-    ensures memory { OnErr result ((fs : List Forest) → Kept fs w store.old store.new) }
+    ensures native { IfOk result (λ o. Refines w.index store.old store.new meter.old meter.new
+        (λ d s. cut slice t.now (seen w.index store.old.cells a.now) (seen w.index store.old.cells b.now) s) o) }
+    ensures memory { OnErr result ((fs : List Forest) → Kept fs w.index store.old store.new) }
 {
     if either_object(a, b) {
         return Ok(NativeOut::Throw(Fault::E4));

@@ -1,5 +1,5 @@
 //! `concat` of texts (ECMA-262 3rd edition, 15.5.4.6).
-ghost use Rattle.std.specs.Prelude.{◌≡◌, ◌<◌, ◌++◌, ℕ, List, IfOk, OnErr, OnOk, length};
+ghost use Rattle.std.specs.Prelude.{◌≡◌, ◌++◌, ℕ, List, IfOk, OnErr, OnOk, length};
 ghost use Rattle.std.specs.List.{flat_map};
 ghost use Rattle.js_tree.specs.Forest.{Forest};
 ghost use Rattle.store_cells.specs.Cells.{PlainCell};
@@ -12,7 +12,7 @@ ghost use Rattle.native_common.specs.Numbers.{counted};
 
 use code_units::{Memory, Text};
 use js_values::{Fault, Meter, NativeOut};
-use native_common::{any_object, make_text, read_text, take, text_len};
+use native_common::{WidgetId, any_object, make_text, read_text, take, text_len};
 use object_store::{Store, Value};
 use std::alloc::Global;
 
@@ -24,12 +24,11 @@ pub(crate) fn concat(
     args: &[Value],
     store: &mut Store,
     meter: &mut Meter,
-    w: u32,
+    w: WidgetId,
 ) -> Result<NativeOut, Memory>
-    requires widget { w < 32 }
-    ensures native { IfOk result (λ o. Refines w store.old store.new meter.old meter.new
-        (λ d s. means.text_concat t.now (all_seen w store.old.cells args.now) s) o) }
-    ensures memory { OnErr result ((fs : List Forest) → Kept fs w store.old store.new) }
+    ensures native { IfOk result (λ o. Refines w.index store.old store.new meter.old meter.new
+        (λ d s. means.text_concat t.now (all_seen w.index store.old.cells args.now) s) o) }
+    ensures memory { OnErr result ((fs : List Forest) → Kept fs w.index store.old store.new) }
 {
     if any_object(args) {
         return Ok(NativeOut::Throw(Fault::E4));

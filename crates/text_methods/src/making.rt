@@ -1,5 +1,5 @@
 //! What is made of a text by itself (ECMA-262 3rd edition, 15.5.4.16 to 15.5.4.18): of case, ASCII letters alone.
-ghost use Rattle.std.specs.Prelude.{◌≡◌, ◌<◌, List, IfOk, OnErr, length};
+ghost use Rattle.std.specs.Prelude.{◌≡◌, List, IfOk, OnErr, length};
 ghost use Rattle.std.specs.Str.{str_to_ascii_lowercase, str_to_ascii_uppercase};
 ghost use Rattle.std.specs.Char as chars;
 ghost use Rattle.js_tree.specs.Forest.{Forest};
@@ -10,7 +10,7 @@ ghost use Rattle.native_common.specs.Refines.{Refines};
 
 use code_units::{Memory, Text};
 use js_values::{Meter, NativeOut};
-use native_common::{give_text, text_len};
+use native_common::{WidgetId, give_text, text_len};
 use object_store::{Store, TextNative};
 use std::alloc::Global;
 
@@ -21,12 +21,11 @@ pub(crate) fn make_of(
     t: &Text,
     store: &mut Store,
     meter: &mut Meter,
-    w: u32,
+    w: WidgetId,
 ) -> Result<NativeOut, Memory>
-    requires widget { w < 32 }
-    ensures native { IfOk result (λ o. Refines w store.old store.new meter.old meter.new
+    ensures native { IfOk result (λ o. Refines w.index store.old store.new meter.old meter.new
         (λ d s. forms.give_text (length t.now) (means.made_of which t.now) s) o) }
-    ensures memory { OnErr result ((fs : List Forest) → Kept fs w store.old store.new) }
+    ensures memory { OnErr result ((fs : List Forest) → Kept fs w.index store.old store.new) }
 {
     let text = made_of(alloc, which, t)?;
     Ok(give_text(store, meter, w, text_len(t), text))

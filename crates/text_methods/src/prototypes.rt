@@ -1,6 +1,6 @@
 //! The `toString` of objects, functions, texts, numbers and truth values (ECMA-262 3rd edition, 15.2.4.2,
 //! 15.3.4.2, 15.5.4.2, 15.6.4.2 and 15.7.4.2).
-ghost use Rattle.std.specs.Prelude.{◌≡◌, ◌<◌, ◌≤◌, ℕ, List, IfOk, OnErr, MatchOption, codes, false, pos, true};
+ghost use Rattle.std.specs.Prelude.{◌≡◌, ◌≤◌, ℕ, List, IfOk, OnErr, MatchOption, codes, false, pos, true};
 ghost use Rattle.js_tree.specs.Forest.{Forest};
 ghost use Rattle.widget_meaning.specs.Costs.{give};
 ghost use Rattle.widget_meaning.specs.NativeForms.{on_object, on_text};
@@ -19,7 +19,7 @@ use code_units::{Memory, Text};
 use js_image::{Callee, callee, word};
 use js_values::{Fault, Meter, NativeOut, StopCause};
 use native_common::{
-    charged, is_object, is_plain_call, make_text, nth, optional_number, read_text,
+    WidgetId, charged, is_object, is_plain_call, make_text, nth, optional_number, read_text,
 };
 use object_store::{Number, PrototypeNative, Store, Value};
 use std::alloc::Global;
@@ -32,15 +32,14 @@ pub(crate) fn prototype_native(
     args: &[Value],
     store: &mut Store,
     meter: &mut Meter,
-    w: u32,
+    w: WidgetId,
 ) -> Result<NativeOut, Memory>
-    requires widget { w < 32 }
-    requires receiver { IsReceiver w store.old.cells this.now }
+    requires receiver { IsReceiver w.index store.old.cells this.now }
     requires here { is_here which ≡ true }
-    ensures native { IfOk result (λ o. Refines w store.old store.new meter.old meter.new
-        (means.prototype_native which (receiver w store.old.cells this.now)
-        (all_seen w store.old.cells args.now)) o) }
-    ensures memory { OnErr result ((fs : List Forest) → Kept fs w store.old store.new) }
+    ensures native { IfOk result (λ o. Refines w.index store.old store.new meter.old meter.new
+        (means.prototype_native which (receiver w.index store.old.cells this.now)
+        (all_seen w.index store.old.cells args.now)) o) }
+    ensures memory { OnErr result ((fs : List Forest) → Kept fs w.index store.old store.new) }
 {
     let absent = Value::Undefined;
     match which {
@@ -74,13 +73,12 @@ fn object_to_string(
     alloc: Global,
     this: &Value,
     store: &mut Store,
-    w: u32,
+    w: WidgetId,
 ) -> Result<NativeOut, Memory>
-    requires widget { w < 32 }
-    ensures native { IfOk result (λ o. Ends w store.old store.new
-        (λ d s. on_object (receiver w store.old.cells this.now) s
+    ensures native { IfOk result (λ o. Ends w.index store.old store.new
+        (λ d s. on_object (receiver w.index store.old.cells this.now) s
         (λ v. means.give_made (codes "[object Object]") s)) o) }
-    ensures memory { OnErr result ((fs : List Forest) → Kept fs w store.old store.new) }
+    ensures memory { OnErr result ((fs : List Forest) → Kept fs w.index store.old store.new) }
 {
     if is_plain_call(this) || !is_object(this) {
         return Ok(NativeOut::Throw(Fault::E3));
@@ -94,13 +92,12 @@ fn function_to_string(
     alloc: Global,
     this: &Value,
     store: &mut Store,
-    w: u32,
+    w: WidgetId,
 ) -> Result<NativeOut, Memory>
-    requires widget { w < 32 }
-    requires receiver { IsReceiver w store.old.cells this.now }
-    ensures native { IfOk result (λ o. Ends w store.old store.new
-        (λ d s. means.function_to_string (receiver w store.old.cells this.now) s) o) }
-    ensures memory { OnErr result ((fs : List Forest) → Kept fs w store.old store.new) }
+    requires { IsReceiver w.index store.old.cells this.now }
+    ensures native { IfOk result (λ o. Ends w.index store.old store.new
+        (λ d s. means.function_to_string (receiver w.index store.old.cells this.now) s) o) }
+    ensures memory { OnErr result ((fs : List Forest) → Kept fs w.index store.old store.new) }
 {
     if is_plain_call(this) {
         return Ok(NativeOut::Throw(Fault::E3));
@@ -121,12 +118,12 @@ fn number_to_string(
     radix: &Value,
     store: &mut Store,
     meter: &mut Meter,
-    w: u32,
+    w: WidgetId,
 ) -> Result<NativeOut, Memory>
-    requires widget { w < 32 }
-    ensures native { IfOk result (λ o. Refines w store.old store.new meter.old meter.new
-        (λ d s. means.number_to_string (receiver w store.old.cells this.now) (seen w store.old.cells radix.now) s) o) }
-    ensures memory { OnErr result ((fs : List Forest) → Kept fs w store.old store.new) }
+    ensures native { IfOk result (λ o. Refines w.index store.old store.new meter.old meter.new
+        (λ d s. means.number_to_string (receiver w.index store.old.cells this.now)
+        (seen w.index store.old.cells radix.now) s) o) }
+    ensures memory { OnErr result ((fs : List Forest) → Kept fs w.index store.old store.new) }
 {
     match this {
         Value::Num(n) => in_radix(alloc, *n, radix, store, meter, w),
@@ -141,12 +138,11 @@ fn in_radix(
     radix: &Value,
     store: &mut Store,
     meter: &mut Meter,
-    w: u32,
+    w: WidgetId,
 ) -> Result<NativeOut, Memory>
-    requires widget { w < 32 }
-    ensures native { IfOk result (λ o. Refines w store.old store.new meter.old meter.new
-        (λ d s. means.in_radix (plain (Value.Num n)) (seen w store.old.cells radix.now) s) o) }
-    ensures memory { OnErr result ((fs : List Forest) → Kept fs w store.old store.new) }
+    ensures native { IfOk result (λ o. Refines w.index store.old store.new meter.old meter.new
+        (λ d s. means.in_radix (plain (Value.Num n)) (seen w.index store.old.cells radix.now) s) o) }
+    ensures memory { OnErr result ((fs : List Forest) → Kept fs w.index store.old store.new) }
 {
     if is_object(radix) {
         return Ok(NativeOut::Throw(Fault::E4));
@@ -190,12 +186,11 @@ fn boolean_to_string(
     alloc: Global,
     this: &Value,
     store: &mut Store,
-    w: u32,
+    w: WidgetId,
 ) -> Result<NativeOut, Memory>
-    requires widget { w < 32 }
-    ensures native { IfOk result (λ o. Ends w store.old store.new
-        (λ d s. means.boolean_to_string (receiver w store.old.cells this.now) s) o) }
-    ensures memory { OnErr result ((fs : List Forest) → Kept fs w store.old store.new) }
+    ensures native { IfOk result (λ o. Ends w.index store.old store.new
+        (λ d s. means.boolean_to_string (receiver w.index store.old.cells this.now) s) o) }
+    ensures memory { OnErr result ((fs : List Forest) → Kept fs w.index store.old store.new) }
 {
     match this {
         Value::Bool(_) => {

@@ -10,7 +10,7 @@ ghost use Rattle.native_common.specs.Numbers.{counted};
 
 use code_units::{Memory, Text};
 use js_values::{Fault, Meter, NativeOut};
-use native_common::{give_array, give_texts, is_object, read_text, take, text_len};
+use native_common::{WidgetId, give_array, give_texts, is_object, read_text, take, text_len};
 use object_store::{Store, Value};
 use std::alloc::Global;
 use text_search::Needle;
@@ -23,12 +23,11 @@ pub(crate) fn split(
     x: &Value,
     store: &mut Store,
     meter: &mut Meter,
-    w: u32,
+    w: WidgetId,
 ) -> Result<NativeOut, Memory>
-    requires widget { w < 32 }
-    ensures native { IfOk result (λ o. Refines w store.old store.new meter.old meter.new
-        (λ d s. means.split t.now (seen w store.old.cells x.now) s) o) }
-    ensures memory { OnErr result ((fs : List Forest) → Kept fs w store.old store.new) }
+    ensures native { IfOk result (λ o. Refines w.index store.old store.new meter.old meter.new
+        (λ d s. means.split t.now (seen w.index store.old.cells x.now) s) o) }
+    ensures memory { OnErr result ((fs : List Forest) → Kept fs w.index store.old store.new) }
 {
     match x {
         Value::Undefined => whole(alloc, t, store, meter, w),
@@ -42,12 +41,11 @@ fn whole(
     t: &Text,
     store: &mut Store,
     meter: &mut Meter,
-    w: u32,
+    w: WidgetId,
 ) -> Result<NativeOut, Memory>
-    requires widget { w < 32 }
-    ensures native { IfOk result (λ o. Refines w store.old store.new meter.old meter.new
+    ensures native { IfOk result (λ o. Refines w.index store.old store.new meter.old meter.new
         (λ d s. means.split t.now Undefined s) o) }
-    ensures memory { OnErr result ((fs : List Forest) → Kept fs w store.old store.new) }
+    ensures memory { OnErr result ((fs : List Forest) → Kept fs w.index store.old store.new) }
 {
     let mut values = Vec::new(alloc);
     values.push(Value::Text(t.share()?))?;
@@ -64,13 +62,12 @@ fn split_by(
     x: &Value,
     store: &mut Store,
     meter: &mut Meter,
-    w: u32,
+    w: WidgetId,
 ) -> Result<NativeOut, Memory>
-    requires widget { w < 32 }
-    requires there { x.now ≡ Value.Undefined → ⊥ }
-    ensures native { IfOk result (λ o. Refines w store.old store.new meter.old meter.new
-        (λ d s. means.split t.now (seen w store.old.cells x.now) s) o) }
-    ensures memory { OnErr result ((fs : List Forest) → Kept fs w store.old store.new) }
+    requires { x.now ≡ Value.Undefined → ⊥ }
+    ensures native { IfOk result (λ o. Refines w.index store.old store.new meter.old meter.new
+        (λ d s. means.split t.now (seen w.index store.old.cells x.now) s) o) }
+    ensures memory { OnErr result ((fs : List Forest) → Kept fs w.index store.old store.new) }
 {
     if is_object(x) {
         return Ok(NativeOut::Throw(Fault::E4));

@@ -23,6 +23,7 @@ ghost use Rattle.turn_dispatch.specs.Held.{FineDispatch};
 use crate::level::Dispatch;
 use code_units::{Memory, Owner, Text};
 use js_image::{Made, StopCause, Written, make, put, word};
+use native_common::WidgetId;
 use native_image::make_bunch;
 use object_store::{CELL_LIMIT, CellId, HostEntry, NativeId, NewCell, SLOT_LIMIT, Store, Value};
 use page_tree::{NodeId, Page};
@@ -145,7 +146,8 @@ fn make_bunch_of(
 {
     let mut nodes = Vec::new(alloc);
     nodes.push(node)?;
-    made(make_bunch(alloc, store, w, page, nodes)?)
+    let id = WidgetId { index: w };
+    made(make_bunch(alloc, store, id, page, nodes)?)
 }
 
 // A Bunch under a name that an event object has.

@@ -1,16 +1,31 @@
-use Rattle.std.proofs.Common.{ℕ, List, OnErr, sym, ap, subst}
-use Rattle.js_tree.specs.Forest.{Forest}
-use Rattle.store_cells.specs.Cells.{number_in}
-use Rattle.js_image.specs.Held.{Kept}
-use Rattle.native_common.specs.Receivers.{IsReceiver}
-use Rattle.adsafe_object.specs.Timers.{AsksOwn}
+use Rattle.std.proofs.Common.{None, sym, subst}
+use Rattle.std.specs.Prelude.{IfOk}
+use Rattle.std.proofs.lemmas.Result.{IfOk-weaker}
+use Rattle.permitted_table.specs.declared.native.NativeId.{NativeId}
+use Rattle.widget_meaning.specs.Natives.{run_native}
+use Rattle.js_image.specs.Image.{all_seen}
+use Rattle.native_common.specs.Receivers.{receiver}
+use Rattle.adsafe_object.specs.Ends.{RefinesNoted}
+use Rattle.adsafe_object.proofs.Exits.{silent_keeps}
+use Rattle.adsafe_object.proofs.Lists.{part_else}
+use Rattle.adsafe_object.proofs.Timing.{unasked}
 use Rattle.adsafe_object.proofs.natives.call.Goals as goal
 
-pub returns-clause-memory : goal.returns-clause-memory
-returns-clause-memory c = subst (λ (n : ℕ). OnErr c.run.result ((fs : List Forest) → Kept fs n c.args.store.now c.run.new.store)) (sym (ap number_in c.in-Widget.is)) c.run.ensures.memory
+pub returns-in-Adsafe-clause-native : goal.returns-in-Adsafe-clause-native
+returns-in-Adsafe-clause-native c =
+    let w = c.args.w.index in
+    let s = c.args.store.now in
+    let n = c.of_adsafe.new in
+    let this = receiver w s.cells c.args.this.now in
+    subst (λ (k : NativeId). IfOk c.of_adsafe.result (λ o. RefinesNoted w c.args.waiting s n.store c.args.meter.now n.meter (record { log = c.args.log.now.items; posts = c.args.posts.now.items; asked = None }) (record { log = n.log.items; posts = n.posts.items; asked = n.asked }) (run_native k this (all_seen w s.cells c.args.args.now)) o))
+    (sym c.in-Adsafe.is) (c.of_adsafe.ensures.native this)
 
-pub run-requires-clause-receiver : goal.run-requires-clause-receiver
-run-requires-clause-receiver c = subst (λ (n : ℕ). IsReceiver n c.args.store.now.cells c.args.this.now) (ap number_in c.in-Widget.is) c.requires.receiver
+pub call_silent-requires-clause-silent : goal.call_silent-requires-clause-silent
+call_silent-requires-clause-silent c = part_else c.args.which c.in_default.not-Adsafe
 
-pub returns-clause-own : goal.returns-clause-own
-returns-clause-own c = subst (λ (n : ℕ). AsksOwn n c.run.new.store.cells c.run.new.asked) (sym (ap number_in c.in-Widget.is)) c.run.ensures.own
+pub returns-in_default-clause-native : goal.returns-in_default-clause-native
+returns-in_default-clause-native c = IfOk-weaker c.call_silent.result _ _ (λ o h.
+    silent_keeps c.args.w.index c.args.store.now c.call_silent.new.store c.args.meter.now c.call_silent.new.meter _ o c.args.waiting c.args.log.now.items c.args.posts.now.items c.args.asked.now c.requires.unasked h) c.call_silent.ensures.native
+
+pub returns-in_default-clause-own : goal.returns-in_default-clause-own
+returns-in_default-clause-own c = unasked c.args.w.index c.call_silent.new.store.cells c.args.asked.now c.requires.unasked

@@ -16,7 +16,7 @@ silent-requires-clause-silent c = sym (ap keeps_note c.in-Adsafe.is) ∙ c.requi
 
 pub returns-in-Adsafe-clause-native : goal.returns-in-Adsafe-clause-native
 returns-in-Adsafe-clause-native c =
-    let w = c.args.w in
+    let w = c.args.w.index in
     let s = c.args.store.now in
     let n = c.silent.new in
     let this = receiver w s.cells c.args.this.now in
@@ -25,5 +25,5 @@ returns-in-Adsafe-clause-native c =
 
 pub returns-in-Prototype-clause-native : goal.returns-in-Prototype-clause-native
 returns-in-Prototype-clause-native c = IfOk-weaker c.has_own_property.result _ _ (λ o h.
-    confined_run c.args.w c.args.store.now c.args.store.now c.args.meter.now c.args.meter.now _ o _
-    (has_own_is c.args.w c.args.store.now.cells c.args.args.now (receiver c.args.w c.args.store.now.cells c.args.this.now) c.args.which c.nth-first.result.now c.nth-first.ensures c.in-Prototype.field-0 c.requires.part c.in-Prototype.is) refl h) c.has_own_property.ensures
+    confined_run c.args.w.index c.args.store.now c.args.store.now c.args.meter.now c.args.meter.now _ o _
+    (has_own_is c.args.w.index c.args.store.now.cells c.args.args.now (receiver c.args.w.index c.args.store.now.cells c.args.this.now) c.args.which c.nth-first.result.now c.nth-first.ensures c.in-Prototype.field-0 c.requires.part c.in-Prototype.is) refl h) c.has_own_property.ensures

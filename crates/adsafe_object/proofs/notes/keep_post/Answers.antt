@@ -11,8 +11,8 @@ use Rattle.adsafe_object.proofs.notes.keep_post.Goals as goal
 pub returns-in-Stop-clause-ends : goal.returns-in-Stop-clause-ends
 returns-in-Stop-clause-ends c = λ waiting log. record {
   leaves = λ fs r node d few.
-      let q = noted c.args.w c.args.store.now.cells (record { log = log; posts = c.args.posts.now.items; asked = None }) r in
-      let s = image fs q c.args.w c.args.store.now in
+      let q = noted c.args.w.index c.args.store.now.cells (record { log = log; posts = c.args.posts.now.items; asked = None }) r in
+      let s = image fs q c.args.w.index c.args.store.now in
       room_for c.args.posts.now.items c.args.to.now c.args.text.now s refl (omega arith)
       ∙ ap (λ (t : List ℕ). pay (units_cost (length t + 1)) s (λ u. give (Truth true) (with_post u c.args.to.now c.args.text.now))) (sym c.units.ensures)
       ∙ c.in-Stop.ensures.plan fs q (λ u. give (Truth true) (with_post u c.args.to.now c.args.text.now));
@@ -24,7 +24,7 @@ returns-in-Stop-clause-ends c = λ waiting log. record {
 pub returns-in_ok-push-in-Done-clause-ends : goal.returns-in_ok-push-in-Done-clause-ends
 returns-in_ok-push-in-Done-clause-ends c = λ waiting log. record {
   leaves = λ fs r node d few.
-      let w = c.args.w in
+      let w = c.args.w.index in
       let q = noted w c.args.store.now.cells (record { log = log; posts = c.args.posts.now.items; asked = None }) r in
       let s = image fs q w c.args.store.now in
       let t = image fs q w c.pay_entry.new.store in

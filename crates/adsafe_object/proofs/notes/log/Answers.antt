@@ -15,7 +15,7 @@ use Rattle.adsafe_object.proofs.notes.log.Goals as goal
 pub returns-in_default-clause-native : goal.returns-in_default-clause-native
 returns-in_default-clause-native c = λ waiting posts.
     let s = c.args.store.now in
-    let w = c.args.w in
+    let w = c.args.w.index in
     let notes : Notes = record { log = c.args.log.now.items; posts = posts; asked = None } in
     noted_same w waiting s s notes notes (λ d t. log_native (seen w s.cells c.args.v.now) t) (λ d t. text_plan None t (λ x. log_text x t)) _ c.args.meter.now c.args.meter.now
     (λ fs r d. c.in_ok-text.ensures w s.cells (image fs r w s) (λ x. log_text x (image fs r w s)) ∙ ap (λ o. text_plan o (image fs r w s) (λ x. log_text x (image fs r w s))) c.in_default.is)
@@ -25,7 +25,7 @@ pub returns-in-Err : goal.returns-in-Err
 returns-in-Err c = record {
   native = λ waiting posts.
       let s = c.args.store.now in
-      let w = c.args.w in
+      let w = c.args.w.index in
       let t = c.in-Some.text in
       let notes : Notes = record { log = c.args.log.now.items; posts = posts; asked = None } in
       let rest : ℕ → State → Plan = λ d x. pay (units_cost (length t + 1)) x (λ u. give Undefined (with_entry u t)) in
@@ -39,7 +39,7 @@ pub returns-in-Ok : goal.returns-in-Ok
 returns-in-Ok c = record {
   native = IfOk-weaker c.append.result _ _ (λ o h. λ waiting posts.
       let s = c.args.store.now in
-      let w = c.args.w in
+      let w = c.args.w.index in
       let t = c.in-Some.text in
       let before : Notes = record { log = c.args.log.now.items; posts = posts; asked = None } in
       let after : Notes = record { log = c.append.new.log.items; posts = posts; asked = None } in

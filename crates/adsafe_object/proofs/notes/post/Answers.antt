@@ -12,7 +12,7 @@ use Rattle.adsafe_object.proofs.notes.post.Goals as goal
 pub returns-in-Err-clause-native : goal.returns-in-Err-clause-native
 returns-in-Err-clause-native c = λ waiting log.
     let s = c.args.store.now in
-    let w = c.args.w in
+    let w = c.args.w.index in
     let to = c.in-Text.to in
     let t = c.in-Text-text.text in
     let notes : Notes = record { log = log; posts = c.args.posts.now.items; asked = None } in
@@ -24,7 +24,7 @@ returns-in-Err-clause-native c = λ waiting log.
 pub returns-in-Ok-clause-native : goal.returns-in-Ok-clause-native
 returns-in-Ok-clause-native c = IfOk-weaker c.keep_post.result _ _ (λ o h. λ waiting log.
     let s = c.args.store.now in
-    let w = c.args.w in
+    let w = c.args.w.index in
     let to = c.in-Text.to in
     let t = c.in-Text-text.text in
     let before : Notes = record { log = log; posts = c.args.posts.now.items; asked = None } in

@@ -8,7 +8,7 @@ use Rattle.adsafe_object.proofs.objects.is_array.Goals as goal
 
 pub returns : goal.returns
 returns c = record {
-  leaves = λ fs r node d. ap (λ b. give (Truth b) (image fs r c.args.w c.args.store.now)) (sym (c.is_array_in.ensures ∙ value_array fs r c.args.w c.args.store.now c.lawful.ensures c.args.v.now c.requires));
+  leaves = λ fs r node d. ap (λ b. give (Truth b) (image fs r c.args.w.index c.args.store.now)) (sym (c.is_array_in.ensures ∙ value_array fs r c.args.w.index c.args.store.now c.lawful.ensures c.args.v.now c.requires));
   fine = tt;
-  kept = λ fs. kept_same fs c.args.w c.args.store.now c.args.store.now refl;
+  kept = λ fs. kept_same fs c.args.w.index c.args.store.now c.args.store.now refl;
 }

@@ -12,7 +12,7 @@ pub returns-in-Name-clause-ends : goal.returns-in-Name-clause-ends
 returns-in-Name-clause-ends c =
     let s = c.args.store.now in
     let t = c.remove.new.store in
-    let w = c.args.w in record {
+    let w = c.args.w.index in record {
       leaves = λ fs r node d. subst (λ (q : Plan). Leaves (seen w t.cells) node d c.removed.result (image fs r w t) q)
           (sym (c.in_ok-fault.ensures w s.cells (image fs r w s) (λ x. delete (seen w s.cells c.args.object.now) x (image fs r w s) (λ b. give Undefined))
           ∙ ap (λ n. named_plan n (image fs r w s) (λ x. delete (seen w s.cells c.args.object.now) x (image fs r w s) (λ b. give Undefined))) c.in-Name.is

@@ -12,7 +12,7 @@ pub returns-in_ok-put-in-Name-clause-ends : goal.returns-in_ok-put-in-Name-claus
 returns-in_ok-put-in-Name-clause-ends c =
     let s = c.args.store.now in
     let t = c.put.new.store in
-    let w = c.args.w in record {
+    let w = c.args.w.index in record {
       leaves = λ fs r node d. subst (λ (q : Plan). Leaves (seen w t.cells) node d c.written.result (image fs r w t) q)
           (sym (c.in_ok-fault.ensures w s.cells (image fs r w s) (λ x. put (seen w s.cells c.args.object.now) x (seen w s.cells c.args.value.now) (image fs r w s) (give Undefined))
           ∙ ap (λ n. named_plan n (image fs r w s) (λ x. put (seen w s.cells c.args.object.now) x (seen w s.cells c.args.value.now) (image fs r w s) (give Undefined))) c.in-Name.is

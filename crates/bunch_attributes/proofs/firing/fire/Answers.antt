@@ -20,7 +20,7 @@ use Rattle.bunch_attributes.proofs.firing.fire.Goals as goal
 
 pub returns-then-is_object : goal.returns-then-is_object
 returns-then-is_object c = λ b.
-    let w = c.args.w in
+    let w = c.args.w.index in
     let s = c.args.store.now in
     let h = beside s c.args.page.now c.args.around.now b in
     let ns = map (number c.args.page.now w) c.args.list.now in
@@ -31,7 +31,7 @@ returns-then-is_object c = λ b.
 
 pub returns-then-not-is_event_type : goal.returns-then-not-is_event_type
 returns-then-not-is_event_type c = λ b.
-    let w = c.args.w in
+    let w = c.args.w.index in
     let s = c.args.store.now in
     let h = beside s c.args.page.now c.args.around.now b in
     let ns = map (number c.args.page.now w) c.args.list.now in
@@ -46,7 +46,7 @@ returns-then-not-is_event_type c = λ b.
 
 pub returns-in-Ok : goal.returns-in-Ok
 returns-in-Ok c = λ b.
-    let w = c.args.w in
+    let w = c.args.w.index in
     let p = c.args.page.now in
     let s = c.args.store.now in
     let h = beside s p c.args.around.now b in
@@ -71,7 +71,7 @@ returns-in-Ok c = λ b.
 
 pub returns-in-Err : goal.returns-in-Err
 returns-in-Err c = λ b.
-    let w = c.args.w in
+    let w = c.args.w.index in
     let p = c.args.page.now in
     let s = c.args.store.now in
     let h = beside s p c.args.around.now b in

@@ -21,7 +21,7 @@ leave-requires c = c.requires.nodes.own
 
 pub returns-in-Ok-clause-native : goal.returns-in-Ok-clause-native
 returns-in-Ok-clause-native c = λ b.
-    let w = c.args.w in
+    let w = c.args.w.index in
     let p = c.args.page.now in
     let s = c.args.store.now in
     let l = c.args.around.now in
@@ -33,7 +33,7 @@ returns-in-Ok-clause-native c = λ b.
     let begun = c.in-Ok.ensures.begun (length ns) Free (few_counted (number p w) c.args.list.now c.requires.nodes.few) tt in
     let grows = (begun.kept []).grows in
     let there = sound_stays w s t p l sound (begun.kept []) in
-    at_ended w c.requires.widget s t p l b sound c.args.meter.now c.begin.new.meter (length ns) Free (λ d u. write_method Blur ns v [] d u) (λ d y. give v (with_focus (left_focus y.own.focus ns) y))
+    at_ended w c.args.w.small s t p l b sound c.args.meter.now c.begin.new.meter (length ns) Free (λ d u. write_method Blur ns v [] d u) (λ d y. give v (with_focus (left_focus y.own.focus ns) y))
     (λ fs x d. let u = image fs x w (beside s p l b) in refl)
     begun (beside t p k b) _
     (gives_back w s c.args.this c.requires.held (beside t p l b) (beside t p k b) (seen_stays w s.cells t.cells grows (value.Ref c.args.this) c.requires.held) (held_stays w s.cells t.cells grows c.args.this c.requires.held)
@@ -43,7 +43,7 @@ returns-in-Ok-clause-native c = λ b.
 
 pub returns-in-Ok-clause-kept : goal.returns-in-Ok-clause-kept
 returns-in-Ok-clause-kept c =
-    let w = c.args.w in
+    let w = c.args.w.index in
     let p = c.args.page.now in
     let s = c.args.store.now in
     let l = c.args.around.now in
@@ -57,17 +57,17 @@ returns-in-Ok-clause-kept c =
 
 pub returns-in-Err-clause-native : goal.returns-in-Err-clause-native
 returns-in-Err-clause-native c = λ b.
-    let w = c.args.w in
+    let w = c.args.w.index in
     let p = c.args.page.now in
     let s = c.args.store.now in
     let l = c.args.around.now in
     let ns = map (number p w) c.args.list.now in
     let v = seen w s.cells (value.Ref c.args.this) in
     let sound = c.requires.sound in
-    at_refused w c.requires.widget s c.begin.new.store p l b sound c.args.meter.now c.begin.new.meter (length ns) Free (λ d u. write_method Blur ns v [] d u) (λ d y. give v (with_focus (left_focus y.own.focus ns) y))
+    at_refused w c.args.w.small s c.begin.new.store p l b sound c.args.meter.now c.begin.new.meter (length ns) Free (λ d u. write_method Blur ns v [] d u) (λ d y. give v (with_focus (left_focus y.own.focus ns) y))
     (λ fs x d. let u = image fs x w (beside s p l b) in refl)
     c.in-Err.out c.in-Err.ensures.fires
     (c.in-Err.ensures.refused (length ns) Free (λ d y. give v (with_focus (left_focus y.own.focus ns) y)) (few_counted (number p w) c.args.list.now c.requires.nodes.few) tt)
 
 pub returns-in-Err-clause-kept : goal.returns-in-Err-clause-kept
-returns-in-Err-clause-kept c = keeps_store c.args.w c.args.store.now c.begin.new.store c.args.page.now c.args.around.now c.requires.sound.holds c.begin.ensures.kept
+returns-in-Err-clause-kept c = keeps_store c.args.w.index c.args.store.now c.begin.new.store c.args.page.now c.args.around.now c.requires.sound.holds c.begin.ensures.kept

@@ -21,7 +21,7 @@ use Rattle.bunch_attributes.proofs.focusing.focus.Goals as goal
 
 pub returns-then-list-ne1-clause-native : goal.returns-then-list-ne1-clause-native
 returns-then-list-ne1-clause-native c = λ b.
-    let w = c.args.w in
+    let w = c.args.w.index in
     let p = c.args.page.now in
     let s = c.args.store.now in
     let l = c.args.around.now in
@@ -32,11 +32,11 @@ returns-then-list-ne1-clause-native c = λ b.
     (λ fs x d. focus_other (number p w) c.args.list.now v (image fs x w (beside s p l b)) c.if-list-ne1.true)
 
 pub returns-then-list-ne1-clause-kept : goal.returns-then-list-ne1-clause-kept
-returns-then-list-ne1-clause-kept c = keeps_here c.args.w c.args.store.now c.args.page.now c.args.around.now c.requires.sound.holds
+returns-then-list-ne1-clause-kept c = keeps_here c.args.w.index c.args.store.now c.args.page.now c.args.around.now c.requires.sound.holds
 
 pub returns-in-Ok-clause-native : goal.returns-in-Ok-clause-native
 returns-in-Ok-clause-native c = λ b.
-    let w = c.args.w in
+    let w = c.args.w.index in
     let p = c.args.page.now in
     let s = c.args.store.now in
     let l = c.args.around.now in
@@ -48,7 +48,7 @@ returns-in-Ok-clause-native c = λ b.
     let begun = c.in-Ok.ensures.begun 1 Free (omega arith) tt in
     let grows = (begun.kept []).grows in
     let there = sound_stays w s t p l sound (begun.kept []) in
-    at_ended w c.requires.widget s t p l b sound c.args.meter.now c.begin.new.meter 1 Free (λ d u. write_method Focus ns v [] d u) (λ d y. give v (with_focus (Some (number p w (get_or c.args.list.now 0 0))) y))
+    at_ended w c.args.w.small s t p l b sound c.args.meter.now c.begin.new.meter 1 Free (λ d u. write_method Focus ns v [] d u) (λ d y. give v (with_focus (Some (number p w (get_or c.args.list.now 0 0))) y))
     (λ fs x d. let u = image fs x w (beside s p l b) in focus_one (number p w) c.args.list.now v u (omega arith))
     begun (beside t p k b) _
     (gives_back w s c.args.this c.requires.held (beside t p l b) (beside t p k b) (seen_stays w s.cells t.cells grows (value.Ref c.args.this) c.requires.held) (held_stays w s.cells t.cells grows c.args.this c.requires.held)
@@ -58,7 +58,7 @@ returns-in-Ok-clause-native c = λ b.
 
 pub returns-in-Ok-clause-kept : goal.returns-in-Ok-clause-kept
 returns-in-Ok-clause-kept c =
-    let w = c.args.w in
+    let w = c.args.w.index in
     let p = c.args.page.now in
     let s = c.args.store.now in
     let l = c.args.around.now in
@@ -72,17 +72,17 @@ returns-in-Ok-clause-kept c =
 
 pub returns-in-Err-clause-native : goal.returns-in-Err-clause-native
 returns-in-Err-clause-native c = λ b.
-    let w = c.args.w in
+    let w = c.args.w.index in
     let p = c.args.page.now in
     let s = c.args.store.now in
     let l = c.args.around.now in
     let ns = map (number p w) c.args.list.now in
     let v = seen w s.cells (value.Ref c.args.this) in
     let sound = c.requires.sound in
-    at_refused w c.requires.widget s c.begin.new.store p l b sound c.args.meter.now c.begin.new.meter 1 Free (λ d u. write_method Focus ns v [] d u) (λ d y. give v (with_focus (Some (number p w (get_or c.args.list.now 0 0))) y))
+    at_refused w c.args.w.small s c.begin.new.store p l b sound c.args.meter.now c.begin.new.meter 1 Free (λ d u. write_method Focus ns v [] d u) (λ d y. give v (with_focus (Some (number p w (get_or c.args.list.now 0 0))) y))
     (λ fs x d. let u = image fs x w (beside s p l b) in focus_one (number p w) c.args.list.now v u (omega arith))
     c.in-Err.out c.in-Err.ensures.fires
     (c.in-Err.ensures.refused 1 Free (λ d y. give v (with_focus (Some (number p w (get_or c.args.list.now 0 0))) y)) (omega arith) tt)
 
 pub returns-in-Err-clause-kept : goal.returns-in-Err-clause-kept
-returns-in-Err-clause-kept c = keeps_store c.args.w c.args.store.now c.begin.new.store c.args.page.now c.args.around.now c.requires.sound.holds c.begin.ensures.kept
+returns-in-Err-clause-kept c = keeps_store c.args.w.index c.args.store.now c.begin.new.store c.args.page.now c.args.around.now c.requires.sound.holds c.begin.ensures.kept

@@ -7,4 +7,4 @@ use Rattle.bunch_attributes.proofs.judging.all_pass.Given as goal
 
 -- those before pass
 abbrev pub invariant-each : goal.invariant-each
-invariant-each l = (s : State) → s.own.forest ≡ forest l.page l.w → list_all (passes l.test s) (map (number l.page l.w) (take l.node-index l.list)) ≡ true
+invariant-each l = (s : State) → s.own.forest ≡ forest l.page l.w.index → list_all (passes l.test s) (map (number l.page l.w.index) (take l.node-index l.list)) ≡ true

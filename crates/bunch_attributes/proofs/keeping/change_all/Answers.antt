@@ -17,18 +17,18 @@ each-preserved c =
     let mine = c.requires n (element_in c.args.list.now c.each.node-index c.each-test.true) in
     record {
       shown = λ g s shows.
-          kept_more c.args.page.now c.args.w g c.each.around c.change_node.new.around s c.args.list.now c.each.node-index c.args.change.now c.each-test.true mine c.change_node.ensures.others c.in_ok-change_node.ensures.done (c.each.invariant.shown g s shows);
-      holds = λ s fine holds. holds_changed c.args.w s c.args.page.now c.each.around c.change_node.new.around c.change_node.ensures.others n c.args.change.now mine fine c.in_ok-change_node.ensures.done (c.each.invariant.holds s fine holds);
+          kept_more c.args.page.now c.args.w.index g c.each.around c.change_node.new.around s c.args.list.now c.each.node-index c.args.change.now c.each-test.true mine c.change_node.ensures.others c.in_ok-change_node.ensures.done (c.each.invariant.shown g s shows);
+      holds = λ s fine holds. holds_changed c.args.w.index s c.args.page.now c.each.around c.change_node.new.around c.change_node.ensures.others n c.args.change.now mine fine c.in_ok-change_node.ensures.done (c.each.invariant.holds s fine holds);
     }
 
 pub returns-clause-shown : goal.returns-clause-shown
 returns-clause-shown c = λ g s shows.
-    subst (λ ns. Shows c.args.page.now c.args.w g c.each.around (fold (change_kept (meant g c.args.change.now)) s ns).own)
-    (mapped_whole (number c.args.page.now c.args.w) c.args.list.now c.each.node-index c.each-test.false)
+    subst (λ ns. Shows c.args.page.now c.args.w.index g c.each.around (fold (change_kept (meant g c.args.change.now)) s ns).own)
+    (mapped_whole (number c.args.page.now c.args.w.index) c.args.list.now c.each.node-index c.each-test.false)
     (c.each.invariant.shown g s shows)
 
 pub returns-clause-holds : goal.returns-clause-holds
 returns-clause-holds c = c.each.invariant.holds
 
 pub returns-in_err-change_node-clause-holds : goal.returns-in_err-change_node-clause-holds
-returns-in_err-change_node-clause-holds c = λ s fine holds. holds_same c.args.w s c.args.page.now c.each.around c.change_node.new.around c.change_node.ensures.others c.in_err-change_node.ensures.same (c.each.invariant.holds s fine holds)
+returns-in_err-change_node-clause-holds c = λ s fine holds. holds_same c.args.w.index s c.args.page.now c.each.around c.change_node.new.around c.change_node.ensures.others c.in_err-change_node.ensures.same (c.each.invariant.holds s fine holds)

@@ -12,6 +12,6 @@ use Rattle.bunch_attributes.proofs.keeping.change_all.Given as goal
 -- what is kept with those before is changed
 abbrev pub invariant-each : goal.invariant-each
 invariant-each l = record {
-  shown : (g : ℕ → ℕ) (s : State) → Shows l.page l.w g l.initial.around s.own → Shows l.page l.w g l.around (fold (change_kept (meant g l.change)) s (map (number l.page l.w) (take l.node-index l.list))).own;
-  holds : (s : Cells) → IsFineChange l.w s.cells l.change → HoldsOwn l.w s l.page l.initial.around → HoldsOwn l.w s l.page l.around;
+  shown : (g : ℕ → ℕ) (s : State) → Shows l.page l.fn.w.index g l.initial.around s.own → Shows l.page l.fn.w.index g l.around (fold (change_kept (meant g l.change)) s (map (number l.page l.fn.w.index) (take l.node-index l.list))).own;
+  holds : (s : Cells) → IsFineChange l.fn.w.index s.cells l.change → HoldsOwn l.fn.w.index s l.page l.initial.around → HoldsOwn l.fn.w.index s l.page l.around;
 }

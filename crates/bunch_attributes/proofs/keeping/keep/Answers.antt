@@ -21,7 +21,7 @@ change_all-requires c = c.requires.nodes.own
 pub returns-in_ok-change_all-in-Ok-clause-native : goal.returns-in_ok-change_all-in-Ok-clause-native
 returns-in_ok-change_all-in-Ok-clause-native c = λ b q is.
     let sound = c.requires.sound in
-    let w = c.args.w in
+    let w = c.args.w.index in
     let p = c.args.page.now in
     let s = c.args.store.now in
     let t = c.begin.new.store in
@@ -33,7 +33,7 @@ returns-in_ok-change_all-in-Ok-clause-native c = λ b q is.
     let begun = c.in-Ok.ensures.begun (length ns) q (few_counted (number p w) c.args.list.now c.requires.nodes.few) is in
     let grows = (begun.kept []).grows in
     let there = sound_stays w s t p l sound (begun.kept []) in
-    at_ended w c.requires.widget s t p l b sound c.args.meter.now c.begin.new.meter (length ns) q (λ d u. keep_plan f q ns v u) (λ d y. give v (fold (change_kept f) y ns))
+    at_ended w c.args.w.small s t p l b sound c.args.meter.now c.begin.new.meter (length ns) q (λ d u. keep_plan f q ns v u) (λ d y. give v (fold (change_kept f) y ns))
     (λ fs x d. refl)
     begun (beside t p k b) _
     (gives_back w s c.args.this c.requires.held (beside t p l b) (beside t p k b) (seen_stays w s.cells t.cells grows (value.Ref c.args.this) c.requires.held) (held_stays w s.cells t.cells grows c.args.this c.requires.held)
@@ -46,39 +46,39 @@ returns-in_ok-change_all-in-Ok-clause-native c = λ b q is.
 pub returns-in_ok-change_all-in-Ok-clause-kept : goal.returns-in_ok-change_all-in-Ok-clause-kept
 returns-in_ok-change_all-in-Ok-clause-kept c =
     let sound = c.requires.sound in
-    let first = keeps_store c.args.w c.args.store.now c.begin.new.store c.args.page.now c.args.around.now sound.holds c.begin.ensures.kept in
+    let first = keeps_store c.args.w.index c.args.store.now c.begin.new.store c.args.page.now c.args.around.now sound.holds c.begin.ensures.kept in
     record {
       store = first.store;
       page = first.page;
       host = first.host;
-      holds = c.change_all.ensures.holds c.begin.new.store (fine_change c.args.w c.args.store.now.cells c.begin.new.store.cells c.args.change.now (c.begin.ensures.kept []).grows c.requires.change) first.holds;
+      holds = c.change_all.ensures.holds c.begin.new.store (fine_change c.args.w.index c.args.store.now.cells c.begin.new.store.cells c.args.change.now (c.begin.ensures.kept []).grows c.requires.change) first.holds;
     }
 
 pub returns-in_err-change_all-in-Ok-clause-kept : goal.returns-in_err-change_all-in-Ok-clause-kept
 returns-in_err-change_all-in-Ok-clause-kept c =
     let sound = c.requires.sound in
-    let first = keeps_store c.args.w c.args.store.now c.begin.new.store c.args.page.now c.args.around.now sound.holds c.begin.ensures.kept in
+    let first = keeps_store c.args.w.index c.args.store.now c.begin.new.store c.args.page.now c.args.around.now sound.holds c.begin.ensures.kept in
     record {
       store = first.store;
       page = first.page;
       host = first.host;
-      holds = c.change_all.ensures.holds c.begin.new.store (fine_change c.args.w c.args.store.now.cells c.begin.new.store.cells c.args.change.now (c.begin.ensures.kept []).grows c.requires.change) first.holds;
+      holds = c.change_all.ensures.holds c.begin.new.store (fine_change c.args.w.index c.args.store.now.cells c.begin.new.store.cells c.args.change.now (c.begin.ensures.kept []).grows c.requires.change) first.holds;
     }
 
 pub returns-in-Err-clause-native : goal.returns-in-Err-clause-native
 returns-in-Err-clause-native c = λ b q is.
     let sound = c.requires.sound in
-    let w = c.args.w in
+    let w = c.args.w.index in
     let p = c.args.page.now in
     let s = c.args.store.now in
     let l = c.args.around.now in
     let ns = map (number p w) c.args.list.now in
     let v = seen w s.cells (value.Ref c.args.this) in
     let f = meant (own_count w s.cells) c.args.change.now in
-    at_refused w c.requires.widget s c.begin.new.store p l b sound c.args.meter.now c.begin.new.meter (length ns) q (λ d u. keep_plan f q ns v u) (λ d y. give v (fold (change_kept f) y ns))
+    at_refused w c.args.w.small s c.begin.new.store p l b sound c.args.meter.now c.begin.new.meter (length ns) q (λ d u. keep_plan f q ns v u) (λ d y. give v (fold (change_kept f) y ns))
     (λ fs x d. refl)
     c.in-Err.out c.in-Err.ensures.fires
     (c.in-Err.ensures.refused (length ns) q (λ d y. give v (fold (change_kept f) y ns)) (few_counted (number p w) c.args.list.now c.requires.nodes.few) is)
 
 pub returns-in-Err-clause-kept : goal.returns-in-Err-clause-kept
-returns-in-Err-clause-kept c = let sound = c.requires.sound in keeps_store c.args.w c.args.store.now c.begin.new.store c.args.page.now c.args.around.now sound.holds c.begin.ensures.kept
+returns-in-Err-clause-kept c = let sound = c.requires.sound in keeps_store c.args.w.index c.args.store.now c.begin.new.store c.args.page.now c.args.around.now sound.holds c.begin.ensures.kept

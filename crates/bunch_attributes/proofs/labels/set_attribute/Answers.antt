@@ -16,11 +16,11 @@ use Rattle.bunch_attributes.specs.declared.relabelling.Label.TheVariants as labe
 use Rattle.bunch_attributes.proofs.labels.set_attribute.Goals as goal
 
 pub returns-in_err-name-clause-kept : goal.returns-in_err-name-clause-kept
-returns-in_err-name-clause-kept c = λ l sound. keeps_here c.args.w c.args.store.now c.args.page.now l sound.holds
+returns-in_err-name-clause-kept c = λ l sound. keeps_here c.args.w.index c.args.store.now c.args.page.now l sound.holds
 
 pub returns-clause-native : goal.returns-clause-native
 returns-clause-native c = λ l b sound.
-    let w = c.args.w in
+    let w = c.args.w.index in
     let p = c.args.page.now in
     let s = c.args.store.now in
     let h = beside s p l b in

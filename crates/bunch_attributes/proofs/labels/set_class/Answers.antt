@@ -17,7 +17,7 @@ use Rattle.bunch_attributes.proofs.labels.set_class.Goals as goal
 
 pub returns-then-is_object-clause-native : goal.returns-then-is_object-clause-native
 returns-then-is_object-clause-native c = λ l b sound.
-    let w = c.args.w in
+    let w = c.args.w.index in
     let p = c.args.page.now in
     let s = c.args.store.now in
     let h = beside s p l b in
@@ -28,14 +28,14 @@ returns-then-is_object-clause-native c = λ l b sound.
     (λ fs x d. let u = image fs x w h in object_of t u (want E4 (is_plain_words (to_text t)) u (means.set_attribute ns (codes "class") (to_text t) v u)) (sym (c.is_object.ensures.object w s.cells) ∙ c.if-is_object.true))
 
 pub returns-then-is_object-clause-kept : goal.returns-then-is_object-clause-kept
-returns-then-is_object-clause-kept c = λ l sound. keeps_here c.args.w c.args.store.now c.args.page.now l sound.holds
+returns-then-is_object-clause-kept c = λ l sound. keeps_here c.args.w.index c.args.store.now c.args.page.now l sound.holds
 
 pub returns-in_err-text-clause-kept : goal.returns-in_err-text-clause-kept
-returns-in_err-text-clause-kept c = λ l sound. keeps_here c.args.w c.args.store.now c.args.page.now l sound.holds
+returns-in_err-text-clause-kept c = λ l sound. keeps_here c.args.w.index c.args.store.now c.args.page.now l sound.holds
 
 pub returns-then-not-plain_words-clause-native : goal.returns-then-not-plain_words-clause-native
 returns-then-not-plain_words-clause-native c = λ l b sound.
-    let w = c.args.w in
+    let w = c.args.w.index in
     let p = c.args.page.now in
     let s = c.args.store.now in
     let h = beside s p l b in
@@ -46,11 +46,11 @@ returns-then-not-plain_words-clause-native c = λ l b sound.
     (λ fs x d. let u = image fs x w h in primitive_of t u (want E4 (is_plain_words (to_text t)) u (means.set_attribute ns (codes "class") (to_text t) v u)) (sym (c.is_object.ensures.object w s.cells) ∙ c.if-is_object.false) ∙ unwanted E4 (is_plain_words (to_text t)) u (means.set_attribute ns (codes "class") (to_text t) v u) (ap is_plain_words (sym (c.in_ok-text.ensures w s.cells)) ∙ sym c.plain_words.ensures ∙ c.if-not-plain_words.true))
 
 pub returns-then-not-plain_words-clause-kept : goal.returns-then-not-plain_words-clause-kept
-returns-then-not-plain_words-clause-kept c = λ l sound. keeps_here c.args.w c.args.store.now c.args.page.now l sound.holds
+returns-then-not-plain_words-clause-kept c = λ l sound. keeps_here c.args.w.index c.args.store.now c.args.page.now l sound.holds
 
 pub returns-clause-native : goal.returns-clause-native
 returns-clause-native c = λ l b sound.
-    let w = c.args.w in
+    let w = c.args.w.index in
     let p = c.args.page.now in
     let s = c.args.store.now in
     let h = beside s p l b in

@@ -13,7 +13,7 @@ use Rattle.bunch_attributes.proofs.labels.set_enabled.Goals as goal
 
 pub returns-clause-native : goal.returns-clause-native
 returns-clause-native c = λ l b sound.
-    let w = c.args.w in
+    let w = c.args.w.index in
     let p = c.args.page.now in
     let s = c.args.store.now in
     let h = beside s p l b in

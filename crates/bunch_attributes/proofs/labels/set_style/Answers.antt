@@ -28,7 +28,7 @@ use Rattle.bunch_attributes.proofs.labels.set_style.Goals as goal
 
 pub returns-then-either_object-clause-native : goal.returns-then-either_object-clause-native
 returns-then-either_object-clause-native c = λ l b sound.
-    let w = c.args.w in
+    let w = c.args.w.index in
     let p = c.args.page.now in
     let s = c.args.store.now in
     let h = beside s p l b in
@@ -40,17 +40,17 @@ returns-then-either_object-clause-native c = λ l b sound.
     (λ fs x d. let u = image fs x w h in objects_of a t u (means.set_style ns (to_text a) (to_text t) v u) (sym (c.either_object.ensures w s.cells) ∙ c.if-either_object.true))
 
 pub returns-then-either_object-clause-kept : goal.returns-then-either_object-clause-kept
-returns-then-either_object-clause-kept c = λ l sound. keeps_here c.args.w c.args.store.now c.args.page.now l sound.holds
+returns-then-either_object-clause-kept c = λ l sound. keeps_here c.args.w.index c.args.store.now c.args.page.now l sound.holds
 
 pub returns-in_err-property-clause-kept : goal.returns-in_err-property-clause-kept
-returns-in_err-property-clause-kept c = λ l sound. keeps_here c.args.w c.args.store.now c.args.page.now l sound.holds
+returns-in_err-property-clause-kept c = λ l sound. keeps_here c.args.w.index c.args.store.now c.args.page.now l sound.holds
 
 pub returns-in_err-value-clause-kept : goal.returns-in_err-value-clause-kept
-returns-in_err-value-clause-kept c = λ l sound. keeps_here c.args.w c.args.store.now c.args.page.now l sound.holds
+returns-in_err-value-clause-kept c = λ l sound. keeps_here c.args.w.index c.args.store.now c.args.page.now l sound.holds
 
 pub returns-then-not-may_style-clause-native : goal.returns-then-not-may_style-clause-native
 returns-then-not-may_style-clause-native c = λ l b sound.
-    let w = c.args.w in
+    let w = c.args.w.index in
     let p = c.args.page.now in
     let s = c.args.store.now in
     let h = beside s p l b in
@@ -62,11 +62,11 @@ returns-then-not-may_style-clause-native c = λ l b sound.
     (λ fs x d. let u = image fs x w h in primitives_of a t u (means.set_style ns (to_text a) (to_text t) v u) (sym (c.either_object.ensures w s.cells) ∙ c.if-either_object.false) ∙ unwanted E4 (is_listed (to_text a) && (nat_eq (length (to_text t)) 0 || is_value (to_text t))) u (want_all (passes test.Element u) ns u (charge (length ns) u (pay_for (OfUnits (length ns * length (to_text t))) u (λ y. give v (fold (relabel (means.styled (to_text a) (to_text t))) y ns))))) ((λ j. is_listed (sym (c.in_ok-property.ensures w s.cells) j) && (nat_eq (length (sym (c.in_ok-value.ensures w s.cells) j)) 0 || is_value (sym (c.in_ok-value.ensures w s.cells) j))) ∙ sym c.may_style.ensures ∙ c.if-not-may_style.true))
 
 pub returns-then-not-may_style-clause-kept : goal.returns-then-not-may_style-clause-kept
-returns-then-not-may_style-clause-kept c = λ l sound. keeps_here c.args.w c.args.store.now c.args.page.now l sound.holds
+returns-then-not-may_style-clause-kept c = λ l sound. keeps_here c.args.w.index c.args.store.now c.args.page.now l sound.holds
 
 pub returns-clause-native : goal.returns-clause-native
 returns-clause-native c = λ l b sound.
-    let w = c.args.w in
+    let w = c.args.w.index in
     let p = c.args.page.now in
     let s = c.args.store.now in
     let h = beside s p l b in

@@ -15,7 +15,7 @@ use Rattle.bunch_attributes.proofs.labels.set_title.Goals as goal
 
 pub returns-then-is_object-clause-native : goal.returns-then-is_object-clause-native
 returns-then-is_object-clause-native c = λ l b sound.
-    let w = c.args.w in
+    let w = c.args.w.index in
     let p = c.args.page.now in
     let s = c.args.store.now in
     let h = beside s p l b in
@@ -26,14 +26,14 @@ returns-then-is_object-clause-native c = λ l b sound.
     (λ fs x d. let u = image fs x w h in object_of t u (means.set_attribute ns (codes "title") (to_text t) v u) (sym (c.is_object.ensures.object w s.cells) ∙ c.if-is_object.true))
 
 pub returns-then-is_object-clause-kept : goal.returns-then-is_object-clause-kept
-returns-then-is_object-clause-kept c = λ l sound. keeps_here c.args.w c.args.store.now c.args.page.now l sound.holds
+returns-then-is_object-clause-kept c = λ l sound. keeps_here c.args.w.index c.args.store.now c.args.page.now l sound.holds
 
 pub returns-in_err-text-clause-kept : goal.returns-in_err-text-clause-kept
-returns-in_err-text-clause-kept c = λ l sound. keeps_here c.args.w c.args.store.now c.args.page.now l sound.holds
+returns-in_err-text-clause-kept c = λ l sound. keeps_here c.args.w.index c.args.store.now c.args.page.now l sound.holds
 
 pub returns-clause-native : goal.returns-clause-native
 returns-clause-native c = λ l b sound.
-    let w = c.args.w in
+    let w = c.args.w.index in
     let p = c.args.page.now in
     let s = c.args.store.now in
     let h = beside s p l b in

@@ -18,7 +18,7 @@ use Rattle.bunch_attributes.proofs.listening.hush.Goals as goal
 
 pub returns-then-is_undefined-clause-native : goal.returns-then-is_undefined-clause-native
 returns-then-is_undefined-clause-native c = λ b.
-    let w = c.args.w in
+    let w = c.args.w.index in
     let p = c.args.page.now in
     let s = c.args.store.now in
     let l = c.args.around.now in
@@ -31,7 +31,7 @@ returns-then-is_undefined-clause-native c = λ b.
 
 pub returns-then-is_object-clause-native : goal.returns-then-is_object-clause-native
 returns-then-is_object-clause-native c = λ b.
-    let w = c.args.w in
+    let w = c.args.w.index in
     let p = c.args.page.now in
     let s = c.args.store.now in
     let l = c.args.around.now in
@@ -42,14 +42,14 @@ returns-then-is_object-clause-native c = λ b.
     (λ fs x d. let u = image fs x w h in off_object ns v d u w s.cells c.args.kind.now (sym c.is_undefined.ensures ∙ c.if-is_undefined.false) (sym (c.is_object.ensures.object w s.cells) ∙ c.if-is_object.true))
 
 pub returns-then-is_object-clause-kept : goal.returns-then-is_object-clause-kept
-returns-then-is_object-clause-kept c = keeps_here c.args.w c.args.store.now c.args.page.now c.args.around.now c.requires.sound.holds
+returns-then-is_object-clause-kept c = keeps_here c.args.w.index c.args.store.now c.args.page.now c.args.around.now c.requires.sound.holds
 
 pub returns-in_err-kind-clause-kept : goal.returns-in_err-kind-clause-kept
-returns-in_err-kind-clause-kept c = keeps_here c.args.w c.args.store.now c.args.page.now c.args.around.now c.requires.sound.holds
+returns-in_err-kind-clause-kept c = keeps_here c.args.w.index c.args.store.now c.args.page.now c.args.around.now c.requires.sound.holds
 
 pub returns-then-not-is_event_type-clause-native : goal.returns-then-not-is_event_type-clause-native
 returns-then-not-is_event_type-clause-native c = λ b.
-    let w = c.args.w in
+    let w = c.args.w.index in
     let p = c.args.page.now in
     let s = c.args.store.now in
     let l = c.args.around.now in
@@ -60,11 +60,11 @@ returns-then-not-is_event_type-clause-native c = λ b.
     (λ fs x d. let u = image fs x w h in off_bad ns v d u w s.cells c.args.kind.now (sym c.is_undefined.ensures ∙ c.if-is_undefined.false) (sym (c.is_object.ensures.object w s.cells) ∙ c.if-is_object.false) (ap is_event_type (sym (c.in_ok-kind.ensures w s.cells)) ∙ sym c.is_event_type.ensures ∙ c.if-not-is_event_type.true))
 
 pub returns-then-not-is_event_type-clause-kept : goal.returns-then-not-is_event_type-clause-kept
-returns-then-not-is_event_type-clause-kept c = keeps_here c.args.w c.args.store.now c.args.page.now c.args.around.now c.requires.sound.holds
+returns-then-not-is_event_type-clause-kept c = keeps_here c.args.w.index c.args.store.now c.args.page.now c.args.around.now c.requires.sound.holds
 
 pub returns-clause-native : goal.returns-clause-native
 returns-clause-native c = λ b.
-    let w = c.args.w in
+    let w = c.args.w.index in
     let p = c.args.page.now in
     let s = c.args.store.now in
     let l = c.args.around.now in

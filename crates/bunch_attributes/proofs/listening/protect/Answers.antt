@@ -14,7 +14,7 @@ use Rattle.bunch_attributes.proofs.listening.protect.Goals as goal
 
 pub returns-clause-native : goal.returns-clause-native
 returns-clause-native c = λ b.
-    let w = c.args.w in
+    let w = c.args.w.index in
     let p = c.args.page.now in
     let s = c.args.store.now in
     let l = c.args.around.now in

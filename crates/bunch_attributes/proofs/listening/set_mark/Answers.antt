@@ -18,7 +18,7 @@ use Rattle.bunch_attributes.proofs.listening.set_mark.Goals as goal
 
 pub returns-then-is_object-clause-native : goal.returns-then-is_object-clause-native
 returns-then-is_object-clause-native c = λ b.
-    let w = c.args.w in
+    let w = c.args.w.index in
     let p = c.args.page.now in
     let s = c.args.store.now in
     let l = c.args.around.now in
@@ -29,14 +29,14 @@ returns-then-is_object-clause-native c = λ b.
     (λ fs x d. let u = image fs x w h in mark_object ns v (seen w s.cells c.args.value.now) d u (sym (c.is_object.ensures.object w s.cells) ∙ c.if-is_object.true))
 
 pub returns-then-is_object-clause-kept : goal.returns-then-is_object-clause-kept
-returns-then-is_object-clause-kept c = keeps_here c.args.w c.args.store.now c.args.page.now c.args.around.now c.requires.sound.holds
+returns-then-is_object-clause-kept c = keeps_here c.args.w.index c.args.store.now c.args.page.now c.args.around.now c.requires.sound.holds
 
 pub returns-in_err-text-clause-kept : goal.returns-in_err-text-clause-kept
-returns-in_err-text-clause-kept c = keeps_here c.args.w c.args.store.now c.args.page.now c.args.around.now c.requires.sound.holds
+returns-in_err-text-clause-kept c = keeps_here c.args.w.index c.args.store.now c.args.page.now c.args.around.now c.requires.sound.holds
 
 pub returns-clause-native : goal.returns-clause-native
 returns-clause-native c = λ b.
-    let w = c.args.w in
+    let w = c.args.w.index in
     let p = c.args.page.now in
     let s = c.args.store.now in
     let l = c.args.around.now in

@@ -13,17 +13,17 @@ pub each-init : goal.each-init
 each-init c = record { image = refl; kept = nodes_same c.args.page.now; others = λ v lt ne. refl; host = host_here c.args.page.now; elements = c.requires.elements }
 
 pub change_node-requires-clause-home : goal.change_node-requires-clause-home
-change_node-requires-clause-home c = home_stays c.args.w c.requires.widget c.args.page.now c.each.page (page_keeps c.args.w c.args.page.now c.each.page c.each.invariant.kept c.each.invariant.others) c.requires.home
+change_node-requires-clause-home c = home_stays c.args.w.index c.args.w.small c.args.page.now c.each.page (page_keeps c.args.w.index c.args.page.now c.each.page c.each.invariant.kept c.each.invariant.others) c.requires.home
 
 pub change_node-requires-clause-own : goal.change_node-requires-clause-own
-change_node-requires-clause-own c = c.each.invariant.kept.owners c.args.w _ ∙ c.requires.own _ (element_in c.args.list.now c.each.node-index c.each-test.true)
+change_node-requires-clause-own c = c.each.invariant.kept.owners c.args.w.index _ ∙ c.requires.own _ (element_in c.args.list.now c.each.node-index c.each-test.true)
 
 pub change_node-requires-clause-element : goal.change_node-requires-clause-element
 change_node-requires-clause-element c = c.each.invariant.elements _ (element_in c.args.list.now c.each.node-index c.each-test.true)
 
 pub each-preserved : goal.each-preserved
 each-preserved c =
-    let w = c.args.w in
+    let w = c.args.w.index in
     let mid = c.each.page in
     let new = c.change_node.new.page in
     let m = get_or c.args.list.now c.each.node-index 0 in
@@ -40,7 +40,7 @@ each-preserved c =
     }
 
 pub returns-clause-image : goal.returns-clause-image
-returns-clause-image c = c.each.invariant.image ∙ ap (fold (relabel_in (meant c.args.change.now)) (forest c.args.page.now c.args.w)) (mapped_whole (number c.args.page.now c.args.w) c.args.list.now c.each.node-index c.each-test.false)
+returns-clause-image c = c.each.invariant.image ∙ ap (fold (relabel_in (meant c.args.change.now)) (forest c.args.page.now c.args.w.index)) (mapped_whole (number c.args.page.now c.args.w.index) c.args.list.now c.each.node-index c.each-test.false)
 
 pub returns-clause-kept : goal.returns-clause-kept
 returns-clause-kept c = c.each.invariant.kept

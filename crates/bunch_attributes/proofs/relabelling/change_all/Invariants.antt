@@ -10,9 +10,9 @@ use Rattle.bunch_attributes.proofs.relabelling.change_all.Given as goal
 -- those before are changed, and all are elements
 abbrev pub invariant-each : goal.invariant-each
 invariant-each l = record {
-  image : forest l.page l.w ≡ fold (relabel_in (meant l.change)) (forest l.initial.page l.w) (map (number l.initial.page l.w) (take l.node-index l.list));
+  image : forest l.page l.w.index ≡ fold (relabel_in (meant l.change)) (forest l.initial.page l.w.index) (map (number l.initial.page l.w.index) (take l.node-index l.list));
   kept : KeepsNodes l.initial.page l.page;
-  others : OthersStay l.initial.page l.page l.w;
+  others : OthersStay l.initial.page l.page l.w.index;
   host : HostStays l.initial.page l.page;
-  elements : (n : ℕ) → has_number l.list n ≡ true → is_text_at (forest l.page l.w) (number l.page l.w n) ≡ false;
+  elements : (n : ℕ) → has_number l.list n ≡ true → is_text_at (forest l.page l.w.index) (number l.page l.w.index n) ≡ false;
 }

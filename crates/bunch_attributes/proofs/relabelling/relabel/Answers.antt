@@ -24,7 +24,7 @@ all_pass-requires c = c.requires.nodes.own
 
 pub returns-then-not-all_pass-clause-native : goal.returns-then-not-all_pass-clause-native
 returns-then-not-all_pass-clause-native c = λ l b q sound is.
-    let w = c.args.w in
+    let w = c.args.w.index in
     let p = c.args.page.now in
     let s = c.args.store.now in
     let ns = map (number p w) c.args.list.now in
@@ -36,7 +36,7 @@ returns-then-not-all_pass-clause-native c = λ l b q sound is.
     ap (λ t. want E10 t u (charge (length ns) u (pay_for q u (λ y. give v (fold (relabel (meant how.change)) y ns))))) (sym (c.all_pass.ensures u refl) ∙ c.if-not-all_pass.true))
 
 pub returns-then-not-all_pass-clause-kept : goal.returns-then-not-all_pass-clause-kept
-returns-then-not-all_pass-clause-kept c = λ l sound. keeps_here c.args.w c.args.store.now c.args.page.now l sound.holds
+returns-then-not-all_pass-clause-kept c = λ l sound. keeps_here c.args.w.index c.args.store.now c.args.page.now l sound.holds
 
 pub change_all-requires-clause-home : goal.change_all-requires-clause-home
 change_all-requires-clause-home c = c.requires.home
@@ -46,12 +46,12 @@ change_all-requires-clause-own c = c.requires.nodes.own
 
 pub change_all-requires-clause-elements : goal.change_all-requires-clause-elements
 change_all-requires-clause-elements c =
-    let u = record no_rest.state { own = record no_rest.state.own { forest = forest c.args.page.now c.args.w } } in
-    passed_elements c.args.how.now.test u c.args.page.now c.args.w refl c.args.list.now (sym (c.all_pass.ensures u refl) ∙ c.if-not-all_pass.false)
+    let u = record no_rest.state { own = record no_rest.state.own { forest = forest c.args.page.now c.args.w.index } } in
+    passed_elements c.args.how.now.test u c.args.page.now c.args.w.index refl c.args.list.now (sym (c.all_pass.ensures u refl) ∙ c.if-not-all_pass.false)
 
 pub returns-in_ok-change_all-in-Ok-clause-native : goal.returns-in_ok-change_all-in-Ok-clause-native
 returns-in_ok-change_all-in-Ok-clause-native c = λ l b q sound is.
-    let w = c.args.w in
+    let w = c.args.w.index in
     let p = c.args.page.now in
     let s = c.args.store.now in
     let t = c.begin.new.store in
@@ -61,13 +61,13 @@ returns-in_ok-change_all-in-Ok-clause-native c = λ l b q sound is.
     let how = c.args.how.now in
     let begun = c.in-Ok.ensures.begun (length ns) q (few_counted (number p w) c.args.list.now c.requires.nodes.few) is in
     let grows = (begun.kept []).grows in
-    at_ended w c.requires.widget s t p l b sound c.args.meter.now c.begin.new.meter (length ns) q (λ d u. relabel_plan how.test how.change q ns v u) (λ d y. give v (fold (relabel (meant how.change)) y ns))
+    at_ended w c.args.w.small s t p l b sound c.args.meter.now c.begin.new.meter (length ns) q (λ d u. relabel_plan how.test how.change q ns v u) (λ d y. give v (fold (relabel (meant how.change)) y ns))
     (λ fs x d.
     let u = image fs x w (beside s p l b) in
     ap (λ t. want E10 t u (charge (length ns) u (pay_for q u (λ y. give v (fold (relabel (meant how.change)) y ns))))) (sym (c.all_pass.ensures u refl) ∙ c.if-not-all_pass.false))
     begun (beside t r l b) _
     (gives_back w s c.args.this c.requires.held (beside t p l b) (beside t r l b) (seen_stays w s.cells t.cells grows (value.Ref c.args.this) c.requires.held) (held_stays w s.cells t.cells grows c.args.this c.requires.held)
-    (sound_page w c.requires.widget p r c.change_all.ensures.kept c.change_all.ensures.others t l (sound_stays w s t p l sound (begun.kept [])))
+    (sound_page w c.args.w.small p r c.change_all.ensures.kept c.change_all.ensures.others t l (sound_stays w s t p l sound (begun.kept [])))
     (λ y. fold (relabel (meant how.change)) y ns)
     (λ fs x.
     page_lift w fs x t p r l b c.change_all.ensures.kept
@@ -75,20 +75,20 @@ returns-in_ok-change_all-in-Ok-clause-native c = λ l b q sound is.
     ∙ sym (forest_folded (relabel (meant how.change)) (relabel_in (meant how.change)) (relabel_is (meant how.change)) ns (image fs x w (beside t p l b)))))
 
 pub returns-in_ok-change_all-in-Ok-clause-kept : goal.returns-in_ok-change_all-in-Ok-clause-kept
-returns-in_ok-change_all-in-Ok-clause-kept c = λ l sound. keeps_paged c.args.w c.requires.widget c.args.store.now c.begin.new.store c.args.page.now c.change_all.new.page l sound.holds c.begin.ensures.kept c.change_all.ensures.kept c.change_all.ensures.others c.change_all.ensures.host
+returns-in_ok-change_all-in-Ok-clause-kept c = λ l sound. keeps_paged c.args.w.index c.args.w.small c.args.store.now c.begin.new.store c.args.page.now c.change_all.new.page l sound.holds c.begin.ensures.kept c.change_all.ensures.kept c.change_all.ensures.others c.change_all.ensures.host
 
 pub returns-in_err-change_all-in-Ok-clause-kept : goal.returns-in_err-change_all-in-Ok-clause-kept
-returns-in_err-change_all-in-Ok-clause-kept c = λ l sound. keeps_paged c.args.w c.requires.widget c.args.store.now c.begin.new.store c.args.page.now c.change_all.new.page l sound.holds c.begin.ensures.kept c.change_all.ensures.kept c.change_all.ensures.others c.change_all.ensures.host
+returns-in_err-change_all-in-Ok-clause-kept c = λ l sound. keeps_paged c.args.w.index c.args.w.small c.args.store.now c.begin.new.store c.args.page.now c.change_all.new.page l sound.holds c.begin.ensures.kept c.change_all.ensures.kept c.change_all.ensures.others c.change_all.ensures.host
 
 pub returns-in-Err-clause-native : goal.returns-in-Err-clause-native
 returns-in-Err-clause-native c = λ l b q sound is.
-    let w = c.args.w in
+    let w = c.args.w.index in
     let p = c.args.page.now in
     let s = c.args.store.now in
     let ns = map (number p w) c.args.list.now in
     let v = seen w s.cells (value.Ref c.args.this) in
     let how = c.args.how.now in
-    at_refused w c.requires.widget s c.begin.new.store p l b sound c.args.meter.now c.begin.new.meter (length ns) q (λ d u. relabel_plan how.test how.change q ns v u) (λ d y. give v (fold (relabel (meant how.change)) y ns))
+    at_refused w c.args.w.small s c.begin.new.store p l b sound c.args.meter.now c.begin.new.meter (length ns) q (λ d u. relabel_plan how.test how.change q ns v u) (λ d y. give v (fold (relabel (meant how.change)) y ns))
     (λ fs x d.
     let u = image fs x w (beside s p l b) in
     ap (λ t. want E10 t u (charge (length ns) u (pay_for q u (λ y. give v (fold (relabel (meant how.change)) y ns))))) (sym (c.all_pass.ensures u refl) ∙ c.if-not-all_pass.false))
@@ -96,4 +96,4 @@ returns-in-Err-clause-native c = λ l b q sound is.
     (c.in-Err.ensures.refused (length ns) q (λ d y. give v (fold (relabel (meant how.change)) y ns)) (few_counted (number p w) c.args.list.now c.requires.nodes.few) is)
 
 pub returns-in-Err-clause-kept : goal.returns-in-Err-clause-kept
-returns-in-Err-clause-kept c = λ l sound. keeps_store c.args.w c.args.store.now c.begin.new.store c.args.page.now l sound.holds c.begin.ensures.kept
+returns-in-Err-clause-kept c = λ l sound. keeps_store c.args.w.index c.args.store.now c.begin.new.store c.args.page.now l sound.holds c.begin.ensures.kept

@@ -14,7 +14,7 @@ use Rattle.bunch_attributes.proofs.styles.restyle.Goals as goal
 pub returns-clause-image : goal.returns-clause-image
 returns-clause-image c =
     let p = c.args.page.now in
-    let w = c.args.w in
+    let w = c.args.w.index in
     let n = c.args.node in
     let here = label_at p w n c.requires.own in
     ok_then c.set_attr.result _ _

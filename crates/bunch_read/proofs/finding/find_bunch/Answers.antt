@@ -15,7 +15,7 @@ use Rattle.bunch_read.proofs.Opened.{next_is, shown_by, times}
 use Rattle.bunch_read.proofs.finding.find_bunch.Goals as goal
 
 pub found-requires-clause-shown : goal.found-requires-clause-shown
-found-requires-clause-shown c = shown_by c.args.w c.args.store.now c.args.page.now c.args.around.now c.requires.sound
+found-requires-clause-shown c = shown_by c.args.w.index c.args.store.now c.args.page.now c.args.around.now c.requires.sound
 
 pub give_bunch-requires-clause-sound : goal.give_bunch-requires-clause-sound
 give_bunch-requires-clause-sound c = (c.args.around.now, c.requires.sound)
@@ -28,7 +28,7 @@ give_bunch-requires-clause-apart c = c.in_ok-nodes-in-Ok.ensures.apart.apart
 
 pub returns-in_ok-nodes-in-Ok-clause-native : goal.returns-in_ok-nodes-in-Ok-clause-native
 returns-in_ok-nodes-in-Ok-clause-native c =
-    let w = c.args.w in
+    let w = c.args.w.index in
     let p = c.args.page.now in
     let l = c.args.around.now in
     let old = c.args.store.now in
@@ -51,7 +51,7 @@ returns-in_ok-nodes-in-Ok-clause-holds c = (c.give_bunch.ensures.sound c.args.ar
 
 pub returns-in-Err-clause-native : goal.returns-in-Err-clause-native
 returns-in-Err-clause-native c =
-    let w = c.args.w in
+    let w = c.args.w.index in
     let p = c.args.page.now in
     let l = c.args.around.now in
     let old = c.args.store.now in
@@ -65,10 +65,10 @@ pub returns-in-Err-clause-holds : goal.returns-in-Err-clause-holds
 returns-in-Err-clause-holds c = c.requires.sound.holds
 
 pub returns-in-Err-clause-kept : goal.returns-in-Err-clause-kept
-returns-in-Err-clause-kept c = same_kept c.args.w c.args.store.now c.args.store.now refl
+returns-in-Err-clause-kept c = same_kept c.args.w.index c.args.store.now c.args.store.now refl
 
 pub returns-in_err-nodes-in-Ok-clause-holds : goal.returns-in_err-nodes-in-Ok-clause-holds
 returns-in_err-nodes-in-Ok-clause-holds c = c.requires.sound.holds
 
 pub returns-in_err-nodes-in-Ok-clause-kept : goal.returns-in_err-nodes-in-Ok-clause-kept
-returns-in_err-nodes-in-Ok-clause-kept c = same_kept c.args.w c.args.store.now c.args.store.now refl
+returns-in_err-nodes-in-Ok-clause-kept c = same_kept c.args.w.index c.args.store.now c.args.store.now refl

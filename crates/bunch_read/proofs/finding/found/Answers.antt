@@ -12,22 +12,22 @@ open_nodes-requires c = c.requires.nodes.own
 pub found_from-requires-clause-starts : goal.found_from-requires-clause-starts
 found_from-requires-clause-starts c =
     let k = c.requires.shown in
-    open_own c.args.page.now c.args.w k.1 c.args.list.now c.in_ok-starts.starts.items c.deref.result.now c.deref.ensures.value (c.in_ok-starts.ensures k.0 k.1 k.2)
+    open_own c.args.page.now c.args.w.index k.1 c.args.list.now c.in_ok-starts.starts.items c.deref.result.now c.deref.ensures.value (c.in_ok-starts.ensures k.0 k.1 k.2)
 
 pub found_from-requires-clause-apart : goal.found_from-requires-clause-apart
 found_from-requires-clause-apart c =
     let k = c.requires.shown in
-    open_apart c.args.page.now c.args.w k.1 c.args.list.now c.in_ok-starts.starts.items c.deref.result.now c.deref.ensures.value (c.in_ok-starts.ensures k.0 k.1 k.2) c.requires.nodes.own c.requires.nodes.apart
+    open_apart c.args.page.now c.args.w.index k.1 c.args.list.now c.in_ok-starts.starts.items c.deref.result.now c.deref.ensures.value (c.in_ok-starts.ensures k.0 k.1 k.2) c.requires.nodes.own c.requires.nodes.apart
 
 pub returns-in_ok-starts-clause-image : goal.returns-in_ok-starts-clause-image
 returns-in_ok-starts-clause-image c = λ g s shows. IfOk-weaker c.found_from.result _ _
-    (λ ns h. h ∙ ap (λ l. finds s l c.args.query.now) (open_starts c.args.page.now c.args.w s c.args.list.now c.in_ok-starts.starts.items c.deref.result.now c.deref.ensures.value (c.in_ok-starts.ensures g s shows) c.args.query.now (sym c.begins_next.ensures ∙ c.if-begins_next.true)))
+    (λ ns h. h ∙ ap (λ l. finds s l c.args.query.now) (open_starts c.args.page.now c.args.w.index s c.args.list.now c.in_ok-starts.starts.items c.deref.result.now c.deref.ensures.value (c.in_ok-starts.ensures g s shows) c.args.query.now (sym c.begins_next.ensures ∙ c.if-begins_next.true)))
     (c.found_from.ensures.image g s shows)
 
 pub found_from-requires-else-begins_next-clause-apart : goal.found_from-requires-else-begins_next-clause-apart
-found_from-requires-else-begins_next-clause-apart c = own_distinct c.args.page.now c.args.w c.args.list.now c.requires.nodes.own c.requires.nodes.apart
+found_from-requires-else-begins_next-clause-apart c = own_distinct c.args.page.now c.args.w.index c.args.list.now c.requires.nodes.own c.requires.nodes.apart
 
 pub returns-else-begins_next-clause-image : goal.returns-else-begins_next-clause-image
 returns-else-begins_next-clause-image c = λ g s shows. IfOk-weaker c.found_from-else-begins_next.result _ _
-    (λ ns h. h ∙ ap (λ l. finds s l c.args.query.now) (sym (starts_all s c.args.query.now (map (number c.args.page.now c.args.w) c.args.list.now) (sym c.begins_next.ensures ∙ c.if-begins_next.false))))
+    (λ ns h. h ∙ ap (λ l. finds s l c.args.query.now) (sym (starts_all s c.args.query.now (map (number c.args.page.now c.args.w.index) c.args.list.now) (sym c.begins_next.ensures ∙ c.if-begins_next.false))))
     (c.found_from-else-begins_next.ensures.image g s shows)

@@ -23,7 +23,7 @@ all_open-requires c = c.requires.nodes.own
 
 pub returns-then-not-all_open-clause-native : goal.returns-then-not-all_open-clause-native
 returns-then-not-all_open-clause-native c =
-    let w = c.args.w in
+    let w = c.args.w.index in
     let p = c.args.page.now in
     let l = c.args.around.now in
     let old = c.args.store.now in
@@ -38,7 +38,7 @@ pub returns-then-not-all_open-clause-holds : goal.returns-then-not-all_open-clau
 returns-then-not-all_open-clause-holds c = c.requires.sound.holds
 
 pub returns-then-not-all_open-clause-kept : goal.returns-then-not-all_open-clause-kept
-returns-then-not-all_open-clause-kept c = same_kept c.args.w c.args.store.now c.args.store.now refl
+returns-then-not-all_open-clause-kept c = same_kept c.args.w.index c.args.store.now c.args.store.now refl
 
 pub parents-requires : goal.parents-requires
 parents-requires c = c.requires.nodes.own
@@ -54,7 +54,7 @@ give_bunch-requires-clause-apart c = c.in_ok-nodes-in-Ok.ensures.apart.apart
 
 pub returns-in_ok-nodes-in-Ok-clause-native : goal.returns-in_ok-nodes-in-Ok-clause-native
 returns-in_ok-nodes-in-Ok-clause-native c =
-    let w = c.args.w in
+    let w = c.args.w.index in
     let p = c.args.page.now in
     let l = c.args.around.now in
     let old = c.args.store.now in
@@ -77,7 +77,7 @@ returns-in_ok-nodes-in-Ok-clause-holds c = (c.give_bunch.ensures.sound c.args.ar
 
 pub returns-in-Err-clause-native : goal.returns-in-Err-clause-native
 returns-in-Err-clause-native c =
-    let w = c.args.w in
+    let w = c.args.w.index in
     let p = c.args.page.now in
     let l = c.args.around.now in
     let old = c.args.store.now in
@@ -94,10 +94,10 @@ pub returns-in-Err-clause-holds : goal.returns-in-Err-clause-holds
 returns-in-Err-clause-holds c = c.requires.sound.holds
 
 pub returns-in-Err-clause-kept : goal.returns-in-Err-clause-kept
-returns-in-Err-clause-kept c = same_kept c.args.w c.args.store.now c.args.store.now refl
+returns-in-Err-clause-kept c = same_kept c.args.w.index c.args.store.now c.args.store.now refl
 
 pub returns-in_err-nodes-in-Ok-clause-holds : goal.returns-in_err-nodes-in-Ok-clause-holds
 returns-in_err-nodes-in-Ok-clause-holds c = c.requires.sound.holds
 
 pub returns-in_err-nodes-in-Ok-clause-kept : goal.returns-in_err-nodes-in-Ok-clause-kept
-returns-in_err-nodes-in-Ok-clause-kept c = same_kept c.args.w c.args.store.now c.args.store.now refl
+returns-in_err-nodes-in-Ok-clause-kept c = same_kept c.args.w.index c.args.store.now c.args.store.now refl

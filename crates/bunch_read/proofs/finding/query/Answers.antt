@@ -15,7 +15,7 @@ use Rattle.bunch_read.proofs.finding.query.Goals as goal
 
 pub returns-then-is_object-clause-native : goal.returns-then-is_object-clause-native
 returns-then-is_object-clause-native c =
-    let w = c.args.w in
+    let w = c.args.w.index in
     let p = c.args.page.now in
     let l = c.args.around.now in
     let old = c.args.store.now in
@@ -28,11 +28,11 @@ pub returns-then-is_object-clause-holds : goal.returns-then-is_object-clause-hol
 returns-then-is_object-clause-holds c = c.requires.sound.holds
 
 pub returns-then-is_object-clause-kept : goal.returns-then-is_object-clause-kept
-returns-then-is_object-clause-kept c = same_kept c.args.w c.args.store.now c.args.store.now refl
+returns-then-is_object-clause-kept c = same_kept c.args.w.index c.args.store.now c.args.store.now refl
 
 pub returns-in-Ok-clause-native : goal.returns-in-Ok-clause-native
 returns-in-Ok-clause-native c =
-    let w = c.args.w in
+    let w = c.args.w.index in
     let p = c.args.page.now in
     let l = c.args.around.now in
     let old = c.args.store.now in
@@ -50,7 +50,7 @@ returns-in-Ok-clause-native c =
 
 pub returns-in-Err-BadQuery-clause-native : goal.returns-in-Err-BadQuery-clause-native
 returns-in-Err-BadQuery-clause-native c =
-    let w = c.args.w in
+    let w = c.args.w.index in
     let p = c.args.page.now in
     let l = c.args.around.now in
     let old = c.args.store.now in

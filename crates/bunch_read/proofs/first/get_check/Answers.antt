@@ -12,7 +12,7 @@ use Rattle.bunch_read.proofs.first.get_check.Goals as goal
 pub returns : goal.returns
 returns c = λ s l sound.
     let p = c.args.page.now in
-    reads_by c.args.w c.requires.widget s s p l sound c.args.meter.now c.give_plain.new.meter
+    reads_by c.args.w.index c.args.w.small s s p l sound c.args.meter.now c.give_plain.new.meter
     _ _ c.give_plain.result c.give_plain.ensures.fires
-    (λ fs x b d. let t = image fs x c.args.w (beside s p l b) in λ j. charge (length-map c.args.list.now (number p c.args.w) j) t (give (Truth (sym (c.is_checked.ensures t refl) j)) t))
-    (c.give_plain.ensures.native c.args.w s (length c.args.list.now) (small (length c.args.list.now) (length c.args.list.now) refl c.requires.nodes.few))
+    (λ fs x b d. let t = image fs x c.args.w.index (beside s p l b) in λ j. charge (length-map c.args.list.now (number p c.args.w.index) j) t (give (Truth (sym (c.is_checked.ensures t refl) j)) t))
+    (c.give_plain.ensures.native c.args.w.index s (length c.args.list.now) (small (length c.args.list.now) (length c.args.list.now) refl c.requires.few))

@@ -12,15 +12,15 @@ use Rattle.bunch_read.proofs.Valued.{get_value_is, no_value}
 use Rattle.bunch_read.proofs.texts.get_value.Goals as goal
 
 pub give_value-requires-clause-own : goal.give_value-requires-clause-own
-give_value-requires-clause-own c = c.requires.nodes.own c.in-Some.node.now (first_has c.args.list.now c.in-Some.node.now (sym c.first.ensures.value ∙ ap option_copied c.in-Some.is))
+give_value-requires-clause-own c = c.requires.own c.in-Some.node.now (first_has c.args.list.now c.in-Some.node.now (sym c.first.ensures.value ∙ ap option_copied c.in-Some.is))
 
 pub give_value-requires-clause-few : goal.give_value-requires-clause-few
-give_value-requires-clause-few c = c.requires.nodes.few
+give_value-requires-clause-few c = c.requires.few
 
 pub returns-in-Some-clause-native : goal.returns-in-Some-clause-native
 returns-in-Some-clause-native c = λ l sound.
     let p = c.args.page.now in
-    let w = c.args.w in
+    let w = c.args.w.index in
     let old = c.args.store.now in
     let n = c.in-Some.node.now in
     IfOk-weaker c.give_value.result _ _
@@ -32,5 +32,5 @@ pub returns-in-None-clause-native : goal.returns-in-None-clause-native
 returns-in-None-clause-native c = λ l sound.
     let p = c.args.page.now in
     let old = c.args.store.now in
-    reads_free c.args.w old p l sound c.args.meter.now (λ d s. means.show GetValue (map (number p c.args.w) c.args.list.now) s) _ tt (λ v h. tt)
-    (λ fs x b d. no_value p c.args.w (image fs x c.args.w (beside old p l b)) c.args.list.now (sym c.first.ensures.value ∙ ap option_copied c.in-None.is))
+    reads_free c.args.w.index old p l sound c.args.meter.now (λ d s. means.show GetValue (map (number p c.args.w.index) c.args.list.now) s) _ tt (λ v h. tt)
+    (λ fs x b d. no_value p c.args.w.index (image fs x c.args.w.index (beside old p l b)) c.args.list.now (sym c.first.ensures.value ∙ ap option_copied c.in-None.is))

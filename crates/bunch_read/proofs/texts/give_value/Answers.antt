@@ -13,7 +13,7 @@ use Rattle.bunch_read.proofs.texts.give_value.Goals as goal
 pub returns-in_ok-text-in-Ok-clause-native : goal.returns-in_ok-text-in-Ok-clause-native
 returns-in_ok-text-in-Ok-clause-native c = λ l sound.
     let p = c.args.page.now in
-    let w = c.args.w in
+    let w = c.args.w.index in
     let old = c.args.store.now in
     let t = c.in_ok-text-in-Ok.text in
     let s0 = image [] no_outside w (beside old p l None) in
@@ -26,12 +26,12 @@ returns-in_ok-text-in-Ok-clause-native c = λ l sound.
     let s = image fs x w (beside old p l b) in
     ap (λ v. value_plan c.args.count v s) (sym (c.in_ok-text-in-Ok.ensures s refl))
     ∙ ap (λ v. charge (c.args.count + length v) s (make_text t s (give (Text t)))) (c.in_ok-text-in-Ok.ensures s0 refl))
-    (λ b. ends_lift w c.requires.widget old c.make_text.new.store p l b sound (λ d s. make_text t s (give (Text t))) c.make_text.result (c.make_text.ensures.fires w (beside c.make_text.new.store p l b)) c.make_text.ensures.ends)
+    (λ b. ends_lift w c.args.w.small old c.make_text.new.store p l b sound (λ d s. make_text t s (give (Text t))) c.make_text.result (c.make_text.ensures.fires w (beside c.make_text.new.store p l b)) c.make_text.ensures.ends)
 
 pub returns-in-Err-clause-native : goal.returns-in-Err-clause-native
 returns-in-Err-clause-native c = λ l sound.
     let p = c.args.page.now in
-    let w = c.args.w in
+    let w = c.args.w.index in
     let old = c.args.store.now in
     let s0 = image [] no_outside w (beside old p l None) in
     let v = means.value_of s0 (number p w c.args.node) in

@@ -24,11 +24,11 @@ pub append_nodes-requires-clause-sound : goal.append_nodes-requires-clause-sound
 append_nodes-requires-clause-sound c = c.requires.sound
 
 pub append_nodes-requires-clause-news : goal.append_nodes-requires-clause-news
-append_nodes-requires-clause-news c = some_own c.args.page.now c.args.bunch.now.w c.in_ok-news.field-0 c.in-Some.news c.deref.result.now c.in-Some.is c.deref.ensures.value c.in_ok-news.ensures.nodes
+append_nodes-requires-clause-news c = some_own c.args.page.now c.args.bunch.now.w.index c.in_ok-news.field-0 c.in-Some.news c.deref.result.now c.in-Some.is c.deref.ensures.value c.in_ok-news.ensures.nodes
 
 pub returns-in-None-clause-native : goal.returns-in-None-clause-native
 returns-in-None-clause-native c = λ l b sound.
-    let w = c.args.bunch.now.w in
+    let w = c.args.bunch.now.w.index in
     let p = c.args.page.now in
     let s = c.args.store.now in
     let h = beside s p l b in
@@ -41,11 +41,11 @@ returns-in-None-clause-native c = λ l b sound.
     ap (λ o. or_throw E4 o u (λ ms. append_nodes ns ms v u)) (c.in_ok-news.ensures.read fs x l b ∙ ap (option_map (λ (k : Vec ℕ Global). map (number p w) k.items)) c.in-None.is))
 
 pub returns-in-None-clause-kept : goal.returns-in-None-clause-kept
-returns-in-None-clause-kept c = λ l sound. keeps_here c.args.bunch.now.w c.args.store.now c.args.page.now l sound.holds
+returns-in-None-clause-kept c = λ l sound. keeps_here c.args.bunch.now.w.index c.args.store.now c.args.page.now l sound.holds
 
 pub returns-in-Some-clause-native : goal.returns-in-Some-clause-native
 returns-in-Some-clause-native c = λ l b sound.
-    let w = c.args.bunch.now.w in
+    let w = c.args.bunch.now.w.index in
     let p = c.args.page.now in
     let s = c.args.store.now in
     let h = beside s p l b in
@@ -64,4 +64,4 @@ pub returns-in-Some-clause-kept : goal.returns-in-Some-clause-kept
 returns-in-Some-clause-kept c = c.append_nodes.ensures.kept
 
 pub returns-in_err-news-clause-kept : goal.returns-in_err-news-clause-kept
-returns-in_err-news-clause-kept c = λ l sound. keeps_here c.args.bunch.now.w c.args.store.now c.args.page.now l sound.holds
+returns-in_err-news-clause-kept c = λ l sound. keeps_here c.args.bunch.now.w.index c.args.store.now c.args.page.now l sound.holds

@@ -38,7 +38,7 @@ append_weighed-requires-clause-sound c = c.requires.sound
 
 pub returns-then-not-takes-clause-native : goal.returns-then-not-takes-clause-native
 returns-then-not-takes-clause-native c = λ l b sound.
-    let w = c.args.bunch.now.w in
+    let w = c.args.bunch.now.w.index in
     let p = c.args.page.now in
     let s = c.args.store.now in
     let h = beside s p l b in
@@ -49,11 +49,11 @@ returns-then-not-takes-clause-native c = λ l b sound.
     (λ fs x d. let u = image fs x w h in unwanted E10 (list_all (is_target u ms) ns) u (want_all is_no_root ms u (charge (length ns * size (trees_at p w c.args.news.now)) u (append_paid ns ms v u))) (sym c.in_ok-takes.ensures ∙ c.if-not-takes.true))
 
 pub returns-then-not-takes-clause-kept : goal.returns-then-not-takes-clause-kept
-returns-then-not-takes-clause-kept c = λ l sound. keeps_here c.args.bunch.now.w c.args.store.now c.args.page.now l sound.holds
+returns-then-not-takes-clause-kept c = λ l sound. keeps_here c.args.bunch.now.w.index c.args.store.now c.args.page.now l sound.holds
 
 pub returns-then-not-none_root-clause-native : goal.returns-then-not-none_root-clause-native
 returns-then-not-none_root-clause-native c = λ l b sound.
-    let w = c.args.bunch.now.w in
+    let w = c.args.bunch.now.w.index in
     let p = c.args.page.now in
     let s = c.args.store.now in
     let h = beside s p l b in
@@ -68,11 +68,11 @@ returns-then-not-none_root-clause-native c = λ l b sound.
     ∙ unwanted E10 (list_all is_no_root ms) u paid (sym c.none_root.ensures ∙ c.if-not-none_root.true))
 
 pub returns-then-not-none_root-clause-kept : goal.returns-then-not-none_root-clause-kept
-returns-then-not-none_root-clause-kept c = λ l sound. keeps_here c.args.bunch.now.w c.args.store.now c.args.page.now l sound.holds
+returns-then-not-none_root-clause-kept c = λ l sound. keeps_here c.args.bunch.now.w.index c.args.store.now c.args.page.now l sound.holds
 
 pub returns-in-Ok-clause-native : goal.returns-in-Ok-clause-native
 returns-in-Ok-clause-native c = λ l b sound.
-    let w = c.args.bunch.now.w in
+    let w = c.args.bunch.now.w.index in
     let p = c.args.page.now in
     let s = c.args.store.now in
     let h = beside s p l b in
@@ -98,7 +98,7 @@ returns-in-Ok-clause-kept c = c.append_weighed.ensures.kept
 
 pub returns-in-Err-clause-native : goal.returns-in-Err-clause-native
 returns-in-Err-clause-native c = λ l b sound.
-    let w = c.args.bunch.now.w in
+    let w = c.args.bunch.now.w.index in
     let p = c.args.page.now in
     let s = c.args.store.now in
     let h = beside s p l b in
@@ -117,7 +117,7 @@ returns-in-Err-clause-native c = λ l b sound.
     (c.in-Err.ensures.err n (times (length ns) (length c.args.bunch.now.nodes.now) c.measure_all-extent.result.nodes (size (trees_at p w c.args.news.now)) c.saturating_mul.result (sym (length-map c.args.bunch.now.nodes.now (number p w))) c.measure_all-extent.ensures.nodes c.saturating_mul.ensures))))
 
 pub returns-in-Err-clause-kept : goal.returns-in-Err-clause-kept
-returns-in-Err-clause-kept c = λ l sound. keeps_here c.args.bunch.now.w c.args.store.now c.args.page.now l sound.holds
+returns-in-Err-clause-kept c = λ l sound. keeps_here c.args.bunch.now.w.index c.args.store.now c.args.page.now l sound.holds
 
 pub returns-in_err-takes-clause-kept : goal.returns-in_err-takes-clause-kept
-returns-in_err-takes-clause-kept c = λ l sound. keeps_here c.args.bunch.now.w c.args.store.now c.args.page.now l sound.holds
+returns-in_err-takes-clause-kept c = λ l sound. keeps_here c.args.bunch.now.w.index c.args.store.now c.args.page.now l sound.holds

@@ -19,7 +19,7 @@ use Rattle.bunch_trees.proofs.Ending.{given_back}
 use Rattle.bunch_trees.proofs.appending.append_weighed.Goals as goal
 
 pub append_all-requires-clause-sound : goal.append_all-requires-clause-sound
-append_all-requires-clause-sound c = (c.requires.sound.0, sound_stays c.args.bunch.now.w c.args.store.now c.pay_judged.new.store c.args.page.now c.requires.sound.0 c.requires.sound.1 (c.pay_judged.ensures.kept []))
+append_all-requires-clause-sound c = (c.requires.sound.0, sound_stays c.args.bunch.now.w.index c.args.store.now c.pay_judged.new.store c.args.page.now c.requires.sound.0 c.requires.sound.1 (c.pay_judged.ensures.kept []))
 
 pub append_all-requires-clause-targets : goal.append_all-requires-clause-targets
 append_all-requires-clause-targets c = c.requires.nodes.own
@@ -29,7 +29,7 @@ append_all-requires-clause-news c = c.requires.news
 
 pub returns-in_ok-settle-in-Ok-clause-ends : goal.returns-in_ok-settle-in-Ok-clause-ends
 returns-in_ok-settle-in-Ok-clause-ends c = λ l b sound.
-    let w = c.args.bunch.now.w in
+    let w = c.args.bunch.now.w.index in
     let p = c.args.page.now in
     let q = c.append_all.new.page in
     let s = c.args.store.now in
@@ -57,31 +57,31 @@ returns-in_ok-settle-in-Ok-clause-ends c = λ l b sound.
 
 pub returns-in_ok-settle-in-Ok-clause-kept : goal.returns-in_ok-settle-in-Ok-clause-kept
 returns-in_ok-settle-in-Ok-clause-kept c = λ l sound.
-    let w = c.args.bunch.now.w in
+    let w = c.args.bunch.now.w.index in
     let p = c.args.page.now in
     let kept = keeps_store w c.args.store.now c.pay_judged.new.store p l sound.holds c.pay_judged.ensures.kept in
     keeps_then w c.args.store.now c.pay_judged.new.store c.append_all.new.store p p c.append_all.new.page l l kept (c.append_all.ensures.kept l kept.holds)
 
 pub returns-in_err-settle-in-Ok-clause-kept : goal.returns-in_err-settle-in-Ok-clause-kept
 returns-in_err-settle-in-Ok-clause-kept c = λ l sound.
-    let w = c.args.bunch.now.w in
+    let w = c.args.bunch.now.w.index in
     let p = c.args.page.now in
     let kept = keeps_store w c.args.store.now c.pay_judged.new.store p l sound.holds c.pay_judged.ensures.kept in
     keeps_then w c.args.store.now c.pay_judged.new.store c.append_all.new.store p p c.append_all.new.page l l kept (c.append_all.ensures.kept l kept.holds)
 
 pub returns-in_err-append_all-in-Ok-clause-kept : goal.returns-in_err-append_all-in-Ok-clause-kept
 returns-in_err-append_all-in-Ok-clause-kept c = λ l sound.
-    let w = c.args.bunch.now.w in
+    let w = c.args.bunch.now.w.index in
     let p = c.args.page.now in
     let kept = keeps_store w c.args.store.now c.pay_judged.new.store p l sound.holds c.pay_judged.ensures.kept in
     keeps_then w c.args.store.now c.pay_judged.new.store c.append_all.new.store p p c.append_all.new.page l l kept (c.append_all.ensures.kept l kept.holds)
 
 pub returns-in_err-pay_judged-in-Ok-clause-kept : goal.returns-in_err-pay_judged-in-Ok-clause-kept
-returns-in_err-pay_judged-in-Ok-clause-kept c = λ l sound. keeps_store c.args.bunch.now.w c.args.store.now c.pay_judged.new.store c.args.page.now l sound.holds c.pay_judged.ensures.kept
+returns-in_err-pay_judged-in-Ok-clause-kept c = λ l sound. keeps_store c.args.bunch.now.w.index c.args.store.now c.pay_judged.new.store c.args.page.now l sound.holds c.pay_judged.ensures.kept
 
 pub returns-in-Err-clause-ends : goal.returns-in-Err-clause-ends
 returns-in-Err-clause-ends c = λ l b sound.
-    let w = c.args.bunch.now.w in
+    let w = c.args.bunch.now.w.index in
     let p = c.args.page.now in
     let s = c.args.store.now in
     let targets = c.args.bunch.now.nodes.now in
@@ -103,4 +103,4 @@ returns-in-Err-clause-ends c = λ l b sound.
     }
 
 pub returns-in-Err-clause-kept : goal.returns-in-Err-clause-kept
-returns-in-Err-clause-kept c = λ l sound. keeps_here c.args.bunch.now.w c.args.store.now c.args.page.now l sound.holds
+returns-in-Err-clause-kept c = λ l sound. keeps_here c.args.bunch.now.w.index c.args.store.now c.args.page.now l sound.holds

@@ -18,7 +18,7 @@ use Rattle.bunch_trees.proofs.copying.append_all.Goals as goal
 
 pub returns-then-is_empty-clause-done : goal.returns-then-is_empty-clause-done
 returns-then-is_empty-clause-done c =
-    let w = c.args.w in
+    let w = c.args.w.index in
     let p = c.args.page.now in
     let s = c.args.store.now in
     let ms = map (number p w) c.args.news.now in
@@ -27,7 +27,7 @@ returns-then-is_empty-clause-done c =
     (changes_none w s p)
 
 pub returns-then-is_empty-clause-kept : goal.returns-then-is_empty-clause-kept
-returns-then-is_empty-clause-kept c = λ l h. keeps_here c.args.w c.args.store.now c.args.page.now l h
+returns-then-is_empty-clause-kept c = λ l h. keeps_here c.args.w.index c.args.store.now c.args.page.now l h
 
 pub but_last-requires : goal.but_last-requires
 but_last-requires c = grind (arith, nat_tests, c.is_empty.ensures, c.if-is_empty.false)
@@ -39,20 +39,20 @@ pub copies_to-requires-clause-sound : goal.copies_to-requires-clause-sound
 copies_to-requires-clause-sound c = c.requires.sound
 
 pub copies_to-requires-clause-targets : goal.copies_to-requires-clause-targets
-copies_to-requires-clause-targets c = front_own c.args.page.now c.args.w c.args.targets.now c.but_last.result.now _ c.but_last.ensures c.requires.targets
+copies_to-requires-clause-targets c = front_own c.args.page.now c.args.w.index c.args.targets.now c.but_last.result.now _ c.but_last.ensures c.requires.targets
 
 pub put_under-requires-clause-home : goal.put_under-requires-clause-home
 put_under-requires-clause-home c = (c.copies_to.ensures.kept c.requires.sound.0 c.requires.sound.1.holds).holds.home
 
 pub put_under-requires-clause-target : goal.put_under-requires-clause-target
-put_under-requires-clause-target c = (c.copies_to.ensures.kept c.requires.sound.0 c.requires.sound.1.holds).page.owners c.args.w _ (c.requires.targets _ (last_in c.args.targets.now _ (grind (arith, nat_tests, c.is_empty.ensures, c.if-is_empty.false)) c.last.ensures))
+put_under-requires-clause-target c = (c.copies_to.ensures.kept c.requires.sound.0 c.requires.sound.1.holds).page.owners c.args.w.index _ (c.requires.targets _ (last_in c.args.targets.now _ (grind (arith, nat_tests, c.is_empty.ensures, c.if-is_empty.false)) c.last.ensures))
 
 pub put_under-requires-clause-news : goal.put_under-requires-clause-news
-put_under-requires-clause-news c = still_own c.args.w c.args.page.now c.copies_to.new.page (c.copies_to.ensures.kept c.requires.sound.0 c.requires.sound.1.holds).page c.args.news.now c.requires.news
+put_under-requires-clause-news c = still_own c.args.w.index c.args.page.now c.copies_to.new.page (c.copies_to.ensures.kept c.requires.sound.0 c.requires.sound.1.holds).page c.args.news.now c.requires.news
 
 pub returns-clause-done : goal.returns-clause-done
 returns-clause-done c =
-    let w = c.args.w in
+    let w = c.args.w.index in
     let p = c.args.page.now in
     let r = c.copies_to.new.page in
     let q = c.put_under.new.page in
@@ -76,19 +76,19 @@ returns-clause-done c =
     ∙ sym (appended_last (map (number p w) front) (number p w n) ms u)
     ∙ ap (λ z. appended z ms u) (sym (last_split (number p w) ts front n some c.but_last.ensures c.last.ensures)))
     (changes_then w s t t p r q so_far (λ u. with_forest u (put u.own.forest)) c.copies_to.ensures.kept c.in_ok-copies_to.ensures.done
-    (changes_page w c.requires.widget t r q c.put_under.ensures.kept c.put_under.ensures.others put e)))
+    (changes_page w c.args.w.small t r q c.put_under.ensures.kept c.put_under.ensures.others put e)))
     c.put_under.ensures.image
 
 pub returns-clause-kept : goal.returns-clause-kept
 returns-clause-kept c = λ l h.
-    let w = c.args.w in
+    let w = c.args.w.index in
     let p = c.args.page.now in
     let r = c.copies_to.new.page in
     let q = c.put_under.new.page in
     let s = c.args.store.now in
     let t = c.copies_to.new.store in
     let k = c.copies_to.ensures.kept l h in
-    keeps_then w s t t p r q l l k (keeps_paged w c.requires.widget t t r q l k.holds (λ fs. kept_same fs w t t refl) c.put_under.ensures.kept c.put_under.ensures.others c.put_under.ensures.host)
+    keeps_then w s t t p r q l l k (keeps_paged w c.args.w.small t t r q l k.holds (λ fs. kept_same fs w t t refl) c.put_under.ensures.kept c.put_under.ensures.others c.put_under.ensures.host)
 
 pub returns-in_err-copies_to-clause-kept : goal.returns-in_err-copies_to-clause-kept
 returns-in_err-copies_to-clause-kept c = c.copies_to.ensures.kept

@@ -14,22 +14,22 @@ use Rattle.bunch_trees.proofs.copying.copies_to.Goals as goal
 
 pub each-init : goal.each-init
 each-init c = record {
-  done = changes_none c.args.w c.args.store.now c.args.page.now;
-  kept = λ k h. keeps_here c.args.w c.args.store.now c.args.page.now k h;
+  done = changes_none c.args.w.index c.args.store.now c.args.page.now;
+  kept = λ k h. keeps_here c.args.w.index c.args.store.now c.args.page.now k h;
 }
 
 pub append_copies-requires-clause-sound : goal.append_copies-requires-clause-sound
 append_copies-requires-clause-sound c = (c.requires.sound.0, c.each.invariant.done.sound c.requires.sound.0 c.requires.sound.1)
 
 pub append_copies-requires-clause-target : goal.append_copies-requires-clause-target
-append_copies-requires-clause-target c = (c.each.invariant.kept c.requires.sound.0 c.requires.sound.1.holds).page.owners c.args.w _ (c.requires.targets _ (element_in c.args.targets.now c.each.target-index c.each-test.true))
+append_copies-requires-clause-target c = (c.each.invariant.kept c.requires.sound.0 c.requires.sound.1.holds).page.owners c.args.w.index _ (c.requires.targets _ (element_in c.args.targets.now c.each.target-index c.each-test.true))
 
 pub append_copies-requires-clause-news : goal.append_copies-requires-clause-news
-append_copies-requires-clause-news c = still_own c.args.w c.args.page.now c.each.page (c.each.invariant.kept c.requires.sound.0 c.requires.sound.1.holds).page c.args.news.now c.requires.news
+append_copies-requires-clause-news c = still_own c.args.w.index c.args.page.now c.each.page (c.each.invariant.kept c.requires.sound.0 c.requires.sound.1.holds).page c.args.news.now c.requires.news
 
 pub each-preserved : goal.each-preserved
 each-preserved c =
-    let w = c.args.w in
+    let w = c.args.w.index in
     let p = c.args.page.now in
     let r = c.each.page in
     let q = c.append_copies.new.page in
@@ -57,7 +57,7 @@ each-preserved c =
 
 pub returns-clause-done : goal.returns-clause-done
 returns-clause-done c =
-    let w = c.args.w in
+    let w = c.args.w.index in
     let p = c.args.page.now in
     let s = c.args.store.now in
     let ts = c.args.targets.now in
@@ -71,4 +71,4 @@ pub returns-clause-kept : goal.returns-clause-kept
 returns-clause-kept c = c.each.invariant.kept
 
 pub returns-in_err-append_copies-clause-kept : goal.returns-in_err-append_copies-clause-kept
-returns-in_err-append_copies-clause-kept c = λ l h. keeps_then c.args.w c.args.store.now c.each.store c.append_copies.new.store c.args.page.now c.each.page c.append_copies.new.page l l (c.each.invariant.kept l h) (c.append_copies.ensures.kept l (c.each.invariant.kept l h).holds)
+returns-in_err-append_copies-clause-kept c = λ l h. keeps_then c.args.w.index c.args.store.now c.each.store c.append_copies.new.store c.args.page.now c.each.page c.append_copies.new.page l l (c.each.invariant.kept l h) (c.append_copies.ensures.kept l (c.each.invariant.kept l h).holds)

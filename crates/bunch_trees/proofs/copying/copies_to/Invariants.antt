@@ -10,6 +10,6 @@ use Rattle.bunch_trees.proofs.copying.copies_to.Given as goal
 -- those before have theirs
 abbrev pub invariant-each : goal.invariant-each
 invariant-each l = record {
-  done : Changes l.w l.initial.store l.store l.initial.page l.page (λ s. fold (λ u t. with_copies t (map (number l.initial.page l.w) l.news) u) s (map (number l.initial.page l.w) (take l.target-index l.targets)));
-  kept : (k : Loop) → HoldsOwn l.w l.initial.store l.initial.page k → KeepsAll l.w l.initial.store l.store l.initial.page l.page k;
+  done : Changes l.w.index l.initial.store l.store l.initial.page l.page (λ s. fold (λ u t. with_copies t (map (number l.initial.page l.w.index) l.news) u) s (map (number l.initial.page l.w.index) (take l.target-index l.targets)));
+  kept : (k : Loop) → HoldsOwn l.w.index l.initial.store l.initial.page k → KeepsAll l.w.index l.initial.store l.store l.initial.page l.page k;
 }

@@ -8,7 +8,7 @@ use Rattle.bunch_trees.proofs.copying.copy_all.Goals as goal
 
 pub each-init : goal.each-init
 each-init c =
-    let w = c.args.w in
+    let w = c.args.w.index in
     let p = c.args.page.now in
     let s = c.args.store.now in
     record {
@@ -19,12 +19,12 @@ each-init c =
       kept = λ k h. keeps_here w s p k h;
     }
 
-pub copy_tree-requires-clause-own : goal.copy_tree-requires-clause-own
-copy_tree-requires-clause-own c = still_owned c.args.page.now c.each.page c.args.w c.each.node-index c.args.news.now (take c.each.node-index c.args.news.now) c.each.ids.items c.each-test.true c.requires.news c.each.invariant.copied
+pub copy_tree-requires : goal.copy_tree-requires
+copy_tree-requires c = still_owned c.args.page.now c.each.page c.args.w.index c.each.node-index c.args.news.now (take c.each.node-index c.args.news.now) c.each.ids.items c.each-test.true c.requires c.each.invariant.copied
 
 pub each-preserved : goal.each-preserved
 each-preserved c =
-    let w = c.args.w in
+    let w = c.args.w.index in
     let p = c.args.page.now in
     let s = c.args.store.now in
     let m = c.each.store in
@@ -34,7 +34,7 @@ each-preserved c =
     let before = c.each.invariant in
     let g = c.in_ok-id.ensures.grown in
     record {
-      copied = copied_at p r q w c.each.node-index c.args.news.now c.each.ids.items c.keep.new.ids.items c.in_ok-id.id c.each-test.true c.requires.news before.copied c.in_ok-keep.ensures g.trees g.first g.mine g.grows g.others;
+      copied = copied_at p r q w c.each.node-index c.args.news.now c.each.ids.items c.keep.new.ids.items c.in_ok-id.id c.each-test.true c.requires before.copied c.in_ok-keep.ensures g.trees g.first g.mine g.grows g.others;
       sound = λ k h. c.in_ok-id.ensures.sound k (before.sound k h);
       same = λ v. c.copy_tree.ensures.same v ∙ before.same v;
       store = λ fs. kept_then fs w s m t (before.store fs) (c.copy_tree.ensures.store fs);
@@ -42,7 +42,7 @@ each-preserved c =
     }
 
 pub returns-clause-copied : goal.returns-clause-copied
-returns-clause-copied c = copied_all c.args.page.now c.each.page c.args.w c.each.node-index c.args.news.now c.each.ids.items c.each-test.false c.each.invariant.copied
+returns-clause-copied c = copied_all c.args.page.now c.each.page c.args.w.index c.each.node-index c.args.news.now c.each.ids.items c.each-test.false c.each.invariant.copied
 
 pub returns-clause-sound : goal.returns-clause-sound
 returns-clause-sound c = c.each.invariant.sound
@@ -54,16 +54,16 @@ pub returns-in_err-id-clause-same : goal.returns-in_err-id-clause-same
 returns-in_err-id-clause-same c = λ v. c.copy_tree.ensures.same v ∙ c.each.invariant.same v
 
 pub returns-in_err-id-clause-store : goal.returns-in_err-id-clause-store
-returns-in_err-id-clause-store c = λ fs. kept_then fs c.args.w c.args.store.now c.each.store c.copy_tree.new.store (c.each.invariant.store fs) (c.copy_tree.ensures.store fs)
+returns-in_err-id-clause-store c = λ fs. kept_then fs c.args.w.index c.args.store.now c.each.store c.copy_tree.new.store (c.each.invariant.store fs) (c.copy_tree.ensures.store fs)
 
 pub returns-in_err-id-clause-kept : goal.returns-in_err-id-clause-kept
-returns-in_err-id-clause-kept c = λ k h. keeps_then c.args.w c.args.store.now c.each.store c.copy_tree.new.store c.args.page.now c.each.page c.copy_tree.new.page k k (c.each.invariant.kept k h) (c.copy_tree.ensures.kept k (c.each.invariant.kept k h).holds)
+returns-in_err-id-clause-kept c = λ k h. keeps_then c.args.w.index c.args.store.now c.each.store c.copy_tree.new.store c.args.page.now c.each.page c.copy_tree.new.page k k (c.each.invariant.kept k h) (c.copy_tree.ensures.kept k (c.each.invariant.kept k h).holds)
 
 pub returns-in_err-keep-clause-same : goal.returns-in_err-keep-clause-same
 returns-in_err-keep-clause-same c = λ v. c.copy_tree.ensures.same v ∙ c.each.invariant.same v
 
 pub returns-in_err-keep-clause-store : goal.returns-in_err-keep-clause-store
-returns-in_err-keep-clause-store c = λ fs. kept_then fs c.args.w c.args.store.now c.each.store c.copy_tree.new.store (c.each.invariant.store fs) (c.copy_tree.ensures.store fs)
+returns-in_err-keep-clause-store c = λ fs. kept_then fs c.args.w.index c.args.store.now c.each.store c.copy_tree.new.store (c.each.invariant.store fs) (c.copy_tree.ensures.store fs)
 
 pub returns-in_err-keep-clause-kept : goal.returns-in_err-keep-clause-kept
-returns-in_err-keep-clause-kept c = λ k h. keeps_then c.args.w c.args.store.now c.each.store c.copy_tree.new.store c.args.page.now c.each.page c.copy_tree.new.page k k (c.each.invariant.kept k h) (c.copy_tree.ensures.kept k (c.each.invariant.kept k h).holds)
+returns-in_err-keep-clause-kept c = λ k h. keeps_then c.args.w.index c.args.store.now c.each.store c.copy_tree.new.store c.args.page.now c.each.page c.copy_tree.new.page k k (c.each.invariant.kept k h) (c.copy_tree.ensures.kept k (c.each.invariant.kept k h).holds)

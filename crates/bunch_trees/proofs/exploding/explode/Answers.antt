@@ -22,11 +22,11 @@ pub explode_nodes-requires-clause-sound : goal.explode_nodes-requires-clause-sou
 explode_nodes-requires-clause-sound c = c.requires.sound
 
 pub explode_nodes-requires-clause-nodes : goal.explode_nodes-requires-clause-nodes
-explode_nodes-requires-clause-nodes c = some_nodes c.args.page.now c.args.w c.in_ok-list.field-0 c.in-Some.list c.deref.result.now c.in-Some.is c.deref.ensures.value c.in_ok-list.ensures.nodes
+explode_nodes-requires-clause-nodes c = some_nodes c.args.page.now c.args.w.index c.in_ok-list.field-0 c.in-Some.list c.deref.result.now c.in-Some.is c.deref.ensures.value c.in_ok-list.ensures.nodes
 
 pub returns-in-None-clause-native : goal.returns-in-None-clause-native
 returns-in-None-clause-native c = λ l b vs sound.
-    let w = c.args.w in
+    let w = c.args.w.index in
     let p = c.args.page.now in
     let s = c.args.store.now in
     let h = beside s p l b in
@@ -35,11 +35,11 @@ returns-in-None-clause-native c = λ l b vs sound.
     (λ fs x d. ap (λ o. or_throw E3 o (image fs x w h) (λ ns. explode ns (image fs x w h))) (c.in_ok-list.ensures.read fs x l b ∙ ap (option_map (λ (k : Vec ℕ Global). map (number p w) k.items)) c.in-None.is))
 
 pub returns-in-None-clause-kept : goal.returns-in-None-clause-kept
-returns-in-None-clause-kept c = λ l sound. keeps_here c.args.w c.args.store.now c.args.page.now l sound.holds
+returns-in-None-clause-kept c = λ l sound. keeps_here c.args.w.index c.args.store.now c.args.page.now l sound.holds
 
 pub returns-in-Some-clause-native : goal.returns-in-Some-clause-native
 returns-in-Some-clause-native c = λ l b vs sound.
-    let w = c.args.w in
+    let w = c.args.w.index in
     let p = c.args.page.now in
     let s = c.args.store.now in
     let h = beside s p l b in
@@ -55,4 +55,4 @@ pub returns-in-Some-clause-kept : goal.returns-in-Some-clause-kept
 returns-in-Some-clause-kept c = c.explode_nodes.ensures.kept
 
 pub returns-in_err-list-clause-kept : goal.returns-in_err-list-clause-kept
-returns-in_err-list-clause-kept c = λ l sound. keeps_here c.args.w c.args.store.now c.args.page.now l sound.holds
+returns-in_err-list-clause-kept c = λ l sound. keeps_here c.args.w.index c.args.store.now c.args.page.now l sound.holds

@@ -17,7 +17,7 @@ explode_weighed-requires-clause-sound c = c.requires.sound
 
 pub returns-in-Ok-clause-native : goal.returns-in-Ok-clause-native
 returns-in-Ok-clause-native c = λ l b sound.
-    let w = c.args.w in
+    let w = c.args.w.index in
     let p = c.args.page.now in
     let ns = map (number p w) c.args.nodes.now in
     let taken = c.in-Ok.ensures.ok (length ns) (few_counted (number p w) c.args.nodes.now c.requires.nodes.few) in
@@ -30,7 +30,7 @@ returns-in-Ok-clause-kept c = c.explode_weighed.ensures.kept
 
 pub returns-in-Err-clause-native : goal.returns-in-Err-clause-native
 returns-in-Err-clause-native c = λ l b sound.
-    let w = c.args.w in
+    let w = c.args.w.index in
     let p = c.args.page.now in
     let h = beside c.args.store.now p l b in
     let ns = map (number p w) c.args.nodes.now in
@@ -38,4 +38,4 @@ returns-in-Err-clause-native c = λ l b sound.
     (at_lacking w h (length ns) (λ d u. explode_paid ns u) c.args.meter.now sound (c.in-Err.ensures.err (length ns) (few_counted (number p w) c.args.nodes.now c.requires.nodes.few)))
 
 pub returns-in-Err-clause-kept : goal.returns-in-Err-clause-kept
-returns-in-Err-clause-kept c = λ l sound. keeps_here c.args.w c.args.store.now c.args.page.now l sound.holds
+returns-in-Err-clause-kept c = λ l sound. keeps_here c.args.w.index c.args.store.now c.args.page.now l sound.holds

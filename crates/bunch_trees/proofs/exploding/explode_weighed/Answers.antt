@@ -15,7 +15,7 @@ make_exploded-requires-clause-sound c = c.requires.sound
 
 pub returns-in_ok-settle-in-Ok-clause-ends : goal.returns-in_ok-settle-in-Ok-clause-ends
 returns-in_ok-settle-in-Ok-clause-ends c = λ l b sound.
-    let w = c.args.w in
+    let w = c.args.w.index in
     let p = c.args.page.now in
     let s = c.args.store.now in
     let t = c.make_exploded.new.store in
@@ -35,17 +35,17 @@ returns-in_ok-settle-in-Ok-clause-ends c = λ l b sound.
     }
 
 pub returns-in_ok-settle-in-Ok-clause-kept : goal.returns-in_ok-settle-in-Ok-clause-kept
-returns-in_ok-settle-in-Ok-clause-kept c = λ l sound. record { store = c.make_exploded.ensures.kept; page = page_same c.args.w c.args.page.now; host = host_here c.args.page.now; holds = (c.make_exploded.ensures.sound l sound).holds }
+returns-in_ok-settle-in-Ok-clause-kept c = λ l sound. record { store = c.make_exploded.ensures.kept; page = page_same c.args.w.index c.args.page.now; host = host_here c.args.page.now; holds = (c.make_exploded.ensures.sound l sound).holds }
 
 pub returns-in_err-settle-in-Ok-clause-kept : goal.returns-in_err-settle-in-Ok-clause-kept
-returns-in_err-settle-in-Ok-clause-kept c = λ l sound. record { store = c.make_exploded.ensures.kept; page = page_same c.args.w c.args.page.now; host = host_here c.args.page.now; holds = (c.make_exploded.ensures.sound l sound).holds }
+returns-in_err-settle-in-Ok-clause-kept c = λ l sound. record { store = c.make_exploded.ensures.kept; page = page_same c.args.w.index c.args.page.now; host = host_here c.args.page.now; holds = (c.make_exploded.ensures.sound l sound).holds }
 
 pub returns-in_err-array-in-Ok-clause-kept : goal.returns-in_err-array-in-Ok-clause-kept
-returns-in_err-array-in-Ok-clause-kept c = λ l sound. record { store = c.make_exploded.ensures.kept; page = page_same c.args.w c.args.page.now; host = host_here c.args.page.now; holds = (c.make_exploded.ensures.sound l sound).holds }
+returns-in_err-array-in-Ok-clause-kept c = λ l sound. record { store = c.make_exploded.ensures.kept; page = page_same c.args.w.index c.args.page.now; host = host_here c.args.page.now; holds = (c.make_exploded.ensures.sound l sound).holds }
 
 pub returns-in-Err-clause-ends : goal.returns-in-Err-clause-ends
 returns-in-Err-clause-ends c = λ l b sound.
-    let w = c.args.w in
+    let w = c.args.w.index in
     let p = c.args.page.now in
     let s = c.args.store.now in
     let ns = map (number p w) c.args.nodes.now in
@@ -61,4 +61,4 @@ returns-in-Err-clause-ends c = λ l b sound.
     }
 
 pub returns-in-Err-clause-kept : goal.returns-in-Err-clause-kept
-returns-in-Err-clause-kept c = λ l sound. keeps_here c.args.w c.args.store.now c.args.page.now l sound.holds
+returns-in-Err-clause-kept c = λ l sound. keeps_here c.args.w.index c.args.store.now c.args.page.now l sound.holds

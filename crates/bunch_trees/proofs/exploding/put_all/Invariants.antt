@@ -5,4 +5,4 @@ use Rattle.bunch_trees.proofs.Filled.{Fills}
 use Rattle.bunch_trees.proofs.exploding.put_all.Given as goal
 
 abbrev pub invariant-loop-at : goal.invariant-loop-at
-invariant-loop-at l = ((fs : List Forest) → Kept fs l.w l.fn.store l.store) × Fills l.w l.fn.store l.array l.store (take l.at l.values)
+invariant-loop-at l = ((fs : List Forest) → Kept fs l.w.index l.fn.store l.store) × Fills l.w.index l.fn.store l.array l.store (take l.at l.values)

@@ -16,20 +16,20 @@ use Rattle.bunch_trees.proofs.measuring.+measure.Goals as goal
 pub measure-requires : goal.measure-requires
 measure-requires t c =
     let items = c.children-child-items.result.now in (
-      omega (arith, c.decreases, lower c.args.page.now c.args.w c.args.node c.requires items c.children-child-items.ensures.image c.each.child-index c.each-test.true),
+      omega (arith, c.decreases, lower c.args.page.now c.args.w.index c.args.node c.requires items c.children-child-items.ensures.image c.each.child-index c.each-test.true),
       c.children-child-items.ensures.own _ (element_in items c.each.child-index c.each-test.true),
     )
 
 pub each-init : goal.each-init
 each-init t c = record {
   nodes = refl;
-  units = first_counted c.own_units.result (label_units (at (nodes c.args.page.now) c.args.node).label) (c.own_units.ensures _ (label_at c.args.page.now c.args.w c.args.node c.requires));
+  units = first_counted c.own_units.result (label_units (at (nodes c.args.page.now) c.args.node).label) (c.own_units.ensures _ (label_at c.args.page.now c.args.w.index c.args.node c.requires));
 }
 
 pub each-preserved : goal.each-preserved
 each-preserved t c =
     let p = c.args.page.now in
-    let w = c.args.w in
+    let w = c.args.w.index in
     let items = c.children-child-items.result.now in
     let i = c.each.child-index in
     let n = get_or items i 0 in
@@ -43,7 +43,7 @@ each-preserved t c =
 pub returns-clause-nodes : goal.returns-clause-nodes
 returns-clause-nodes t c =
     let p = c.args.page.now in
-    let w = c.args.w in
+    let w = c.args.w.index in
     let items = c.children-child-items.result.now in
     let l = (at (nodes p) c.args.node).label in
     c.each.invariant.nodes
@@ -52,7 +52,7 @@ returns-clause-nodes t c =
 pub returns-clause-units : goal.returns-clause-units
 returns-clause-units t c =
     let p = c.args.page.now in
-    let w = c.args.w in
+    let w = c.args.w.index in
     let items = c.children-child-items.result.now in
     let i = c.each.child-index in
     let l = (at (nodes p) c.args.node).label in

@@ -18,7 +18,7 @@ each-init c = record { nodes = refl; units = refl }
 pub each-preserved : goal.each-preserved
 each-preserved c =
     let p = c.args.page.now in
-    let w = c.args.w in
+    let w = c.args.w.index in
     let items = c.args.nodes.now in
     let i = c.each.node-index in
     let n = get_or items i 0 in
@@ -32,11 +32,11 @@ each-preserved c =
 pub returns-clause-nodes : goal.returns-clause-nodes
 returns-clause-nodes c =
     let p = c.args.page.now in
-    let w = c.args.w in
+    let w = c.args.w.index in
     c.each.invariant.nodes ∙ ap counted (ap (over size p w) (take_whole c.args.nodes.now c.each.node-index c.each-test.false) ∙ sym (sizes_are p w c.args.nodes.now))
 
 pub returns-clause-units : goal.returns-clause-units
 returns-clause-units c =
     let p = c.args.page.now in
-    let w = c.args.w in
+    let w = c.args.w.index in
     c.each.invariant.units ∙ ap counted (ap (over tree_units p w) (take_whole c.args.nodes.now c.each.node-index c.each-test.false) ∙ sym (units_are p w c.args.nodes.now))

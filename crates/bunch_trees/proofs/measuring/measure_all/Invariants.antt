@@ -8,6 +8,6 @@ use Rattle.bunch_trees.proofs.measuring.measure_all.Given as goal
 -- what was counted of those before
 abbrev pub invariant-each : goal.invariant-each
 invariant-each l = record {
-  nodes : l.all.nodes ≡ counted (over size l.page l.w (take l.node-index l.nodes));
-  units : l.all.units ≡ counted (over tree_units l.page l.w (take l.node-index l.nodes));
+  nodes : l.all.nodes ≡ counted (over size l.page l.w.index (take l.node-index l.nodes));
+  units : l.all.units ≡ counted (over tree_units l.page l.w.index (take l.node-index l.nodes));
 }

@@ -22,8 +22,8 @@ use Rattle.bunch_trees.specs.Appends.{root_paid, root_plan}
 use Rattle.bunch_trees.proofs.Roots.{alone_all}
 use Rattle.bunch_trees.proofs.rooted.append_to_root.Goals as goal
 
-pub root_of-root-requires-clause-home : goal.root_of-root-requires-clause-home
-root_of-root-requires-clause-home c = c.requires.sound.1.holds.home
+pub root_of-root-requires : goal.root_of-root-requires
+root_of-root-requires c = c.requires.sound.1.holds.home
 
 pub may_append-requires-clause-home : goal.may_append-requires-clause-home
 may_append-requires-clause-home c = c.requires.sound.1.holds.home
@@ -36,7 +36,7 @@ under_root-requires-clause-sound c = c.requires.sound
 
 pub returns-then-not-may_append-clause-native : goal.returns-then-not-may_append-clause-native
 returns-then-not-may_append-clause-native c = λ l b sound.
-    let w = c.args.w in
+    let w = c.args.w.index in
     let p = c.args.page.now in
     let h = beside c.args.store.now p l b in
     let ms = map (number p w) c.args.news.now in
@@ -48,11 +48,11 @@ returns-then-not-may_append-clause-native c = λ l b sound.
     (alone_all (takes (forest p w) ms) (number p w c.root_of-root.result) false c.root_of-root.ensures.first (sym c.may_append.ensures ∙ c.if-not-may_append.true)))
 
 pub returns-then-not-may_append-clause-kept : goal.returns-then-not-may_append-clause-kept
-returns-then-not-may_append-clause-kept c = λ l sound. keeps_here c.args.w c.args.store.now c.args.page.now l sound.holds
+returns-then-not-may_append-clause-kept c = λ l sound. keeps_here c.args.w.index c.args.store.now c.args.page.now l sound.holds
 
 pub returns-in-Ok-clause-native : goal.returns-in-Ok-clause-native
 returns-in-Ok-clause-native c = λ l b sound.
-    let w = c.args.w in
+    let w = c.args.w.index in
     let p = c.args.page.now in
     let h = beside c.args.store.now p l b in
     let new = beside c.under_root.new.store c.under_root.new.page l b in
@@ -74,7 +74,7 @@ returns-in-Ok-clause-kept c = c.under_root.ensures.kept
 
 pub returns-in-Err-clause-native : goal.returns-in-Err-clause-native
 returns-in-Err-clause-native c = λ l b sound.
-    let w = c.args.w in
+    let w = c.args.w.index in
     let p = c.args.page.now in
     let h = beside c.args.store.now p l b in
     let ms = map (number p w) c.args.news.now in
@@ -88,4 +88,4 @@ returns-in-Err-clause-native c = λ l b sound.
     (at_lacking w h n (λ d u. root_paid ms u) c.args.meter.now sound (c.in-Err.ensures.err n c.measure_all-extent.ensures.nodes)))
 
 pub returns-in-Err-clause-kept : goal.returns-in-Err-clause-kept
-returns-in-Err-clause-kept c = λ l sound. keeps_here c.args.w c.args.store.now c.args.page.now l sound.holds
+returns-in-Err-clause-kept c = λ l sound. keeps_here c.args.w.index c.args.store.now c.args.page.now l sound.holds

@@ -23,11 +23,11 @@ pub append_to_root-requires-clause-sound : goal.append_to_root-requires-clause-s
 append_to_root-requires-clause-sound c = c.requires.sound
 
 pub append_to_root-requires-clause-news : goal.append_to_root-requires-clause-news
-append_to_root-requires-clause-news c = some_own c.args.page.now c.args.w c.in_ok-news.field-0 c.in-Some.news c.deref.result.now c.in-Some.is c.deref.ensures.value c.in_ok-news.ensures.nodes
+append_to_root-requires-clause-news c = some_own c.args.page.now c.args.w.index c.in_ok-news.field-0 c.in-Some.news c.deref.result.now c.in-Some.is c.deref.ensures.value c.in_ok-news.ensures.nodes
 
 pub returns-in-None-clause-native : goal.returns-in-None-clause-native
 returns-in-None-clause-native c = λ l b this sound.
-    let w = c.args.w in
+    let w = c.args.w.index in
     let p = c.args.page.now in
     let s = c.args.store.now in
     let h = beside s p l b in
@@ -38,11 +38,11 @@ returns-in-None-clause-native c = λ l b this sound.
     ap (λ o. or_throw E4 o u (λ ms. root_plan ms u)) (c.in_ok-news.ensures.read fs x l b ∙ ap (option_map (λ (k : Vec ℕ Global). map (number p w) k.items)) c.in-None.is))
 
 pub returns-in-None-clause-kept : goal.returns-in-None-clause-kept
-returns-in-None-clause-kept c = λ l sound. keeps_here c.args.w c.args.store.now c.args.page.now l sound.holds
+returns-in-None-clause-kept c = λ l sound. keeps_here c.args.w.index c.args.store.now c.args.page.now l sound.holds
 
 pub returns-in-Some-clause-native : goal.returns-in-Some-clause-native
 returns-in-Some-clause-native c = λ l b this sound.
-    let w = c.args.w in
+    let w = c.args.w.index in
     let p = c.args.page.now in
     let s = c.args.store.now in
     let h = beside s p l b in
@@ -59,4 +59,4 @@ pub returns-in-Some-clause-kept : goal.returns-in-Some-clause-kept
 returns-in-Some-clause-kept c = c.append_to_root.ensures.kept
 
 pub returns-in_err-news-clause-kept : goal.returns-in_err-news-clause-kept
-returns-in_err-news-clause-kept c = λ l sound. keeps_here c.args.w c.args.store.now c.args.page.now l sound.holds
+returns-in_err-news-clause-kept c = λ l sound. keeps_here c.args.w.index c.args.store.now c.args.page.now l sound.holds

@@ -13,10 +13,10 @@ pub each-init : goal.each-init
 each-init c = refl
 
 pub each-preserved : goal.each-preserved
-each-preserved c = open_more is_no_root (number c.args.page.now c.args.w) c.args.list.now c.each.node-index c.each-test.true c.each.invariant (ap not (sym c.is_root.ensures ∙ c.if-is_root.false))
+each-preserved c = open_more is_no_root (number c.args.page.now c.args.w.index) c.args.list.now c.each.node-index c.each-test.true c.each.invariant (ap not (sym c.is_root.ensures ∙ c.if-is_root.false))
 
 pub returns-then-is_root : goal.returns-then-is_root
-returns-then-is_root c = sym (all_not is_no_root (number c.args.page.now c.args.w) c.args.list.now c.each.node-index c.each-test.true (ap not (sym c.is_root.ensures ∙ c.if-is_root.true)))
+returns-then-is_root c = sym (all_not is_no_root (number c.args.page.now c.args.w.index) c.args.list.now c.each.node-index c.each-test.true (ap not (sym c.is_root.ensures ∙ c.if-is_root.true)))
 
 pub returns : goal.returns
-returns c = sym (sym (ap (list_all is_no_root) (mapped_whole (number c.args.page.now c.args.w) c.args.list.now c.each.node-index c.each-test.false)) ∙ c.each.invariant)
+returns c = sym (sym (ap (list_all is_no_root) (mapped_whole (number c.args.page.now c.args.w.index) c.args.list.now c.each.node-index c.each-test.false)) ∙ c.each.invariant)

@@ -6,4 +6,4 @@ use Rattle.bunch_trees.proofs.rooted.none_root.Given as goal
 
 -- none of those before is the root
 abbrev pub invariant-each : goal.invariant-each
-invariant-each l = list_all is_no_root (map (number l.page l.w) (take l.node-index l.list)) ≡ true
+invariant-each l = list_all is_no_root (map (number l.page l.w.index) (take l.node-index l.list)) ≡ true

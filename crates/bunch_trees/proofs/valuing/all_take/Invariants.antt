@@ -7,4 +7,4 @@ use Rattle.bunch_trees.proofs.valuing.all_take.Given as goal
 
 -- those before take it
 abbrev pub invariant-each : goal.invariant-each
-invariant-each l = (s : State) → s.own.forest ≡ forest l.page l.w → list_all (is_value_target s l.text) (map (number l.page l.w) (take l.node-index l.nodes)) ≡ true
+invariant-each l = (s : State) → s.own.forest ≡ forest l.page l.w.index → list_all (is_value_target s l.text) (map (number l.page l.w.index) (take l.node-index l.nodes)) ≡ true

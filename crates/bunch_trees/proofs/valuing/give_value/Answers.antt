@@ -27,7 +27,7 @@ value_weighed-requires-clause-sound c = c.requires.sound
 
 pub returns-then-not-all_take-clause-native : goal.returns-then-not-all_take-clause-native
 returns-then-not-all_take-clause-native c = λ l b sound.
-    let w = c.args.bunch.now.w in
+    let w = c.args.bunch.now.w.index in
     let p = c.args.page.now in
     let s = c.args.store.now in
     let h = beside s p l b in
@@ -38,11 +38,11 @@ returns-then-not-all_take-clause-native c = λ l b sound.
     (λ fs x d. let u = image fs x w h in unwanted E10 (list_all (is_value_target u t) ns) u (charge (length ns) u (value_paid ns t v u)) (sym (c.all_take.ensures u refl) ∙ c.if-not-all_take.true))
 
 pub returns-then-not-all_take-clause-kept : goal.returns-then-not-all_take-clause-kept
-returns-then-not-all_take-clause-kept c = λ l sound. keeps_here c.args.bunch.now.w c.args.store.now c.args.page.now l sound.holds
+returns-then-not-all_take-clause-kept c = λ l sound. keeps_here c.args.bunch.now.w.index c.args.store.now c.args.page.now l sound.holds
 
 pub returns-in-Ok-clause-native : goal.returns-in-Ok-clause-native
 returns-in-Ok-clause-native c = λ l b sound.
-    let w = c.args.bunch.now.w in
+    let w = c.args.bunch.now.w.index in
     let p = c.args.page.now in
     let s = c.args.store.now in
     let h = beside s p l b in
@@ -63,7 +63,7 @@ returns-in-Ok-clause-kept c = c.value_weighed.ensures.kept
 
 pub returns-in-Err-clause-native : goal.returns-in-Err-clause-native
 returns-in-Err-clause-native c = λ l b sound.
-    let w = c.args.bunch.now.w in
+    let w = c.args.bunch.now.w.index in
     let p = c.args.page.now in
     let s = c.args.store.now in
     let h = beside s p l b in
@@ -76,4 +76,4 @@ returns-in-Err-clause-native c = λ l b sound.
     (at_lacking w h (length ns) (λ d u. value_paid ns t v u) c.args.meter.now sound (c.in-Err.ensures.err (length ns) (few_counted (number p w) c.args.bunch.now.nodes.now c.requires.nodes.few))))
 
 pub returns-in-Err-clause-kept : goal.returns-in-Err-clause-kept
-returns-in-Err-clause-kept c = λ l sound. keeps_here c.args.bunch.now.w c.args.store.now c.args.page.now l sound.holds
+returns-in-Err-clause-kept c = λ l sound. keeps_here c.args.bunch.now.w.index c.args.store.now c.args.page.now l sound.holds

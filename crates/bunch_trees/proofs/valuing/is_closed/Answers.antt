@@ -8,10 +8,10 @@ pub returns-in-Some : goal.returns-in-Some
 returns-in-Some c = λ s there.
     c.is_closed_tag.ensures
     ∙ ap (λ o. is_closed_tag (unwrap_or (option_copied o) [])) (sym c.in-Some.is)
-    ∙ closed_is c.args.page.now c.args.w s there c.args.node (option_copied c.tag.result) c.tag.ensures
+    ∙ closed_is c.args.page.now c.args.w.index s there c.args.node (option_copied c.tag.result) c.tag.ensures
 
 pub returns-in-None : goal.returns-in-None
 returns-in-None c = λ s there.
     sym none_closed
     ∙ ap (λ o. is_closed_tag (unwrap_or (option_copied o) [])) (sym c.in-None.is)
-    ∙ closed_is c.args.page.now c.args.w s there c.args.node (option_copied c.tag.result) c.tag.ensures
+    ∙ closed_is c.args.page.now c.args.w.index s there c.args.node (option_copied c.tag.result) c.tag.ensures

@@ -16,12 +16,12 @@ each-init c = (omega arith, λ s there. refl)
 pub each-preserved : goal.each-preserved
 each-preserved c = (
   omega (arith, c.each.invariant.0, c.new_text-many.ensures.few),
-  λ s there. (λ j. c.each.invariant.1 s there j + c.new_text-many.ensures.one s there j) ∙ sym (sum_by_more (λ n. cond (has_new_text s c.args.text.now (number c.args.page.now c.args.w n)) 1 0) c.args.nodes.now c.each.node-index 0 c.each-test.true),
+  λ s there. (λ j. c.each.invariant.1 s there j + c.new_text-many.ensures.one s there j) ∙ sym (sum_by_more (λ n. cond (has_new_text s c.args.text.now (number c.args.page.now c.args.w.index n)) 1 0) c.args.nodes.now c.each.node-index 0 c.each-test.true),
 )
 
 pub returns : goal.returns
 returns c = λ s there.
-    let test : ℕ → Bool = λ n. has_new_text s c.args.text.now (number c.args.page.now c.args.w n) in
+    let test : ℕ → Bool = λ n. has_new_text s c.args.text.now (number c.args.page.now c.args.w.index n) in
     c.each.invariant.1 s there
     ∙ ap (count_by test) (take_whole c.args.nodes.now c.each.node-index c.each-test.false)
-    ∙ counted_over (has_new_text s c.args.text.now) (number c.args.page.now c.args.w) c.args.nodes.now
+    ∙ counted_over (has_new_text s c.args.text.now) (number c.args.page.now c.args.w.index) c.args.nodes.now

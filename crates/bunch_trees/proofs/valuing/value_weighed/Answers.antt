@@ -19,7 +19,7 @@ pub new_texts-requires : goal.new_texts-requires
 new_texts-requires c = c.requires.nodes.own
 
 pub give_all-requires-clause-sound : goal.give_all-requires-clause-sound
-give_all-requires-clause-sound c = (c.requires.sound.0, sound_stays c.args.bunch.now.w c.args.store.now c.pay_judged.new.store c.args.page.now c.requires.sound.0 c.requires.sound.1 (c.pay_judged.ensures.kept []))
+give_all-requires-clause-sound c = (c.requires.sound.0, sound_stays c.args.bunch.now.w.index c.args.store.now c.pay_judged.new.store c.args.page.now c.requires.sound.0 c.requires.sound.1 (c.pay_judged.ensures.kept []))
 
 pub give_all-requires-clause-own : goal.give_all-requires-clause-own
 give_all-requires-clause-own c = c.requires.nodes.own
@@ -29,7 +29,7 @@ give_all-requires-clause-name c = c.in_ok-name-in-Ok.ensures
 
 pub returns-in_ok-settle-in-Ok-clause-ends : goal.returns-in_ok-settle-in-Ok-clause-ends
 returns-in_ok-settle-in-Ok-clause-ends c = λ l b sound.
-    let w = c.args.bunch.now.w in
+    let w = c.args.bunch.now.w.index in
     let p = c.args.page.now in
     let q = c.give_all.new.page in
     let s = c.args.store.now in
@@ -55,34 +55,34 @@ returns-in_ok-settle-in-Ok-clause-ends c = λ l b sound.
 
 pub returns-in_ok-settle-in-Ok-clause-kept : goal.returns-in_ok-settle-in-Ok-clause-kept
 returns-in_ok-settle-in-Ok-clause-kept c = λ l sound.
-    let w = c.args.bunch.now.w in
+    let w = c.args.bunch.now.w.index in
     let p = c.args.page.now in
     let kept = keeps_store w c.args.store.now c.pay_judged.new.store p l sound.holds c.pay_judged.ensures.kept in
     keeps_then w c.args.store.now c.pay_judged.new.store c.give_all.new.store p p c.give_all.new.page l l kept (c.give_all.ensures.kept l kept.holds)
 
 pub returns-in_err-settle-in-Ok-clause-kept : goal.returns-in_err-settle-in-Ok-clause-kept
 returns-in_err-settle-in-Ok-clause-kept c = λ l sound.
-    let w = c.args.bunch.now.w in
+    let w = c.args.bunch.now.w.index in
     let p = c.args.page.now in
     let kept = keeps_store w c.args.store.now c.pay_judged.new.store p l sound.holds c.pay_judged.ensures.kept in
     keeps_then w c.args.store.now c.pay_judged.new.store c.give_all.new.store p p c.give_all.new.page l l kept (c.give_all.ensures.kept l kept.holds)
 
 pub returns-in_err-give_all-in-Ok-clause-kept : goal.returns-in_err-give_all-in-Ok-clause-kept
 returns-in_err-give_all-in-Ok-clause-kept c = λ l sound.
-    let w = c.args.bunch.now.w in
+    let w = c.args.bunch.now.w.index in
     let p = c.args.page.now in
     let kept = keeps_store w c.args.store.now c.pay_judged.new.store p l sound.holds c.pay_judged.ensures.kept in
     keeps_then w c.args.store.now c.pay_judged.new.store c.give_all.new.store p p c.give_all.new.page l l kept (c.give_all.ensures.kept l kept.holds)
 
 pub returns-in_err-name-in-Ok-clause-kept : goal.returns-in_err-name-in-Ok-clause-kept
-returns-in_err-name-in-Ok-clause-kept c = λ l sound. keeps_store c.args.bunch.now.w c.args.store.now c.pay_judged.new.store c.args.page.now l sound.holds c.pay_judged.ensures.kept
+returns-in_err-name-in-Ok-clause-kept c = λ l sound. keeps_store c.args.bunch.now.w.index c.args.store.now c.pay_judged.new.store c.args.page.now l sound.holds c.pay_judged.ensures.kept
 
 pub returns-in_err-pay_judged-in-Ok-clause-kept : goal.returns-in_err-pay_judged-in-Ok-clause-kept
-returns-in_err-pay_judged-in-Ok-clause-kept c = λ l sound. keeps_store c.args.bunch.now.w c.args.store.now c.pay_judged.new.store c.args.page.now l sound.holds c.pay_judged.ensures.kept
+returns-in_err-pay_judged-in-Ok-clause-kept c = λ l sound. keeps_store c.args.bunch.now.w.index c.args.store.now c.pay_judged.new.store c.args.page.now l sound.holds c.pay_judged.ensures.kept
 
 pub returns-in-Err-clause-ends : goal.returns-in-Err-clause-ends
 returns-in-Err-clause-ends c = λ l b sound.
-    let w = c.args.bunch.now.w in
+    let w = c.args.bunch.now.w.index in
     let p = c.args.page.now in
     let s = c.args.store.now in
     let nodes = c.args.bunch.now.nodes.now in
@@ -102,4 +102,4 @@ returns-in-Err-clause-ends c = λ l b sound.
     }
 
 pub returns-in-Err-clause-kept : goal.returns-in-Err-clause-kept
-returns-in-Err-clause-kept c = λ l sound. keeps_here c.args.bunch.now.w c.args.store.now c.args.page.now l sound.holds
+returns-in-Err-clause-kept c = λ l sound. keeps_here c.args.bunch.now.w.index c.args.store.now c.args.page.now l sound.holds

@@ -21,17 +21,17 @@ pub empty-requires-clause-home : goal.empty-requires-clause-home
 empty-requires-clause-home c = c.requires.sound.1.holds.home
 
 pub put_text-requires-clause-sound : goal.put_text-requires-clause-sound
-put_text-requires-clause-sound c = (c.requires.sound.0, sound_page c.args.w c.requires.widget c.args.page.now c.empty.new.page c.empty.ensures.kept c.empty.ensures.others c.args.store.now c.requires.sound.0 c.requires.sound.1)
+put_text-requires-clause-sound c = (c.requires.sound.0, sound_page c.args.w.index c.args.w.small c.args.page.now c.empty.new.page c.empty.ensures.kept c.empty.ensures.others c.args.store.now c.requires.sound.0 c.requires.sound.1)
 
 pub put_text-requires-clause-own : goal.put_text-requires-clause-own
-put_text-requires-clause-own c = c.empty.ensures.kept.owners c.args.w c.args.node ∙ c.requires.own
+put_text-requires-clause-own c = c.empty.ensures.kept.owners c.args.w.index c.args.node ∙ c.requires.own
 
 pub put_text-requires-clause-some : goal.put_text-requires-clause-some
 put_text-requires-clause-some c = subst (λ (t : List ℕ). 0 < length t) (sym c.in_ok-text.ensures) (is_some_text c.args.text.now (ap (λ us. nat_eq (length us) 0) (sym c.units.ensures) ∙ sym c.is_empty.ensures ∙ c.if-is_empty.false))
 
 pub returns-then-is_empty-clause-done : goal.returns-then-is_empty-clause-done
 returns-then-is_empty-clause-done c =
-    let w = c.args.w in
+    let w = c.args.w.index in
     let p = c.args.page.now in
     let q = c.empty.new.page in
     let s = c.args.store.now in
@@ -39,35 +39,35 @@ returns-then-is_empty-clause-done c =
     let none = is_no_text c.args.text.now (ap (λ us. nat_eq (length us) 0) (sym c.units.ensures) ∙ sym c.is_empty.ensures ∙ c.if-is_empty.true) in
     changes_same w s s p q (λ u. emptied u m) (λ u. with_text_node m c.args.text.now (emptied u m))
     (λ l fs x b d. no_text m c.args.text.now (emptied (with_counts (image fs x w (beside s p l b)) d) m) none)
-    (changes_page w c.requires.widget s p q c.empty.ensures.kept c.empty.ensures.others (λ ts. fold detached ts (tops (children m ts))) c.empty.ensures.image)
+    (changes_page w c.args.w.small s p q c.empty.ensures.kept c.empty.ensures.others (λ ts. fold detached ts (tops (children m ts))) c.empty.ensures.image)
 
 pub returns-then-is_empty-clause-kept : goal.returns-then-is_empty-clause-kept
-returns-then-is_empty-clause-kept c = λ l h. keeps_paged c.args.w c.requires.widget c.args.store.now c.args.store.now c.args.page.now c.empty.new.page l h (λ fs. kept_same fs c.args.w c.args.store.now c.args.store.now refl) c.empty.ensures.kept c.empty.ensures.others c.empty.ensures.host
+returns-then-is_empty-clause-kept c = λ l h. keeps_paged c.args.w.index c.args.w.small c.args.store.now c.args.store.now c.args.page.now c.empty.new.page l h (λ fs. kept_same fs c.args.w.index c.args.store.now c.args.store.now refl) c.empty.ensures.kept c.empty.ensures.others c.empty.ensures.host
 
 pub returns-in_err-text-clause-kept : goal.returns-in_err-text-clause-kept
-returns-in_err-text-clause-kept c = λ l h. keeps_paged c.args.w c.requires.widget c.args.store.now c.args.store.now c.args.page.now c.empty.new.page l h (λ fs. kept_same fs c.args.w c.args.store.now c.args.store.now refl) c.empty.ensures.kept c.empty.ensures.others c.empty.ensures.host
+returns-in_err-text-clause-kept c = λ l h. keeps_paged c.args.w.index c.args.w.small c.args.store.now c.args.store.now c.args.page.now c.empty.new.page l h (λ fs. kept_same fs c.args.w.index c.args.store.now c.args.store.now refl) c.empty.ensures.kept c.empty.ensures.others c.empty.ensures.host
 
 pub returns-clause-done : goal.returns-clause-done
 returns-clause-done c =
-    let w = c.args.w in
+    let w = c.args.w.index in
     let p = c.args.page.now in
     let r = c.empty.new.page in
     let q = c.put_text.new.page in
     let s = c.args.store.now in
     let t = c.put_text.new.store in
     let m = number p w c.args.node in
-    let keeps : (l : Loop) → HoldsOwn w s p l → KeepsAll w s s p r l = λ l h. keeps_paged w c.requires.widget s s p r l h (λ fs. kept_same fs w s s refl) c.empty.ensures.kept c.empty.ensures.others c.empty.ensures.host in
+    let keeps : (l : Loop) → HoldsOwn w s p l → KeepsAll w s s p r l = λ l h. keeps_paged w c.args.w.small s s p r l h (λ fs. kept_same fs w s s refl) c.empty.ensures.kept c.empty.ensures.others c.empty.ensures.host in
     ok_then c.put_text.result _ _
     (λ e.
     changes_then w s s t p r q (λ u. emptied u m) (λ u. with_text_node m c.args.text.now u) keeps
-    (changes_page w c.requires.widget s p r c.empty.ensures.kept c.empty.ensures.others (λ ts. fold detached ts (tops (children m ts))) c.empty.ensures.image)
+    (changes_page w c.args.w.small s p r c.empty.ensures.kept c.empty.ensures.others (λ ts. fold detached ts (tops (children m ts))) c.empty.ensures.image)
     (subst (λ (k : ℕ). Changes w s t r q (λ u. with_text_node k c.args.text.now u)) (c.empty.ensures.kept.numbers w c.args.node)
     (subst (λ (k : List ℕ). Changes w s t r q (λ u. with_text_node (number r w c.args.node) k u)) c.in_ok-text.ensures e)))
     c.put_text.ensures.done
 
 pub returns-clause-kept : goal.returns-clause-kept
 returns-clause-kept c = λ l h.
-    let w = c.args.w in
+    let w = c.args.w.index in
     let s = c.args.store.now in
-    let k = keeps_paged w c.requires.widget s s c.args.page.now c.empty.new.page l h (λ fs. kept_same fs w s s refl) c.empty.ensures.kept c.empty.ensures.others c.empty.ensures.host in
+    let k = keeps_paged w c.args.w.small s s c.args.page.now c.empty.new.page l h (λ fs. kept_same fs w s s refl) c.empty.ensures.kept c.empty.ensures.others c.empty.ensures.host in
     keeps_then w s s c.put_text.new.store c.args.page.now c.empty.new.page c.put_text.new.page l l k (c.put_text.ensures.kept l k.holds)

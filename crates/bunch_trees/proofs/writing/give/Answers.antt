@@ -22,15 +22,15 @@ set_attr-requires-clause-home c = c.requires.sound.1.holds.home
 
 pub set_attr-requires-clause-element : goal.set_attr-requires-clause-element
 set_attr-requires-clause-element c =
-    let u = record no_rest.state { own = record no_rest.state.own { forest = forest c.args.page.now c.args.w } } in
-    passes_element test.Input u (number c.args.page.now c.args.w c.args.node) (sym (c.is_input.ensures u refl) ∙ c.if-is_input.true)
+    let u = record no_rest.state { own = record no_rest.state.own { forest = forest c.args.page.now c.args.w.index } } in
+    passes_element test.Input u (number c.args.page.now c.args.w.index c.args.node) (sym (c.is_input.ensures u refl) ∙ c.if-is_input.true)
 
 pub set_text-requires-clause-home : goal.set_text-requires-clause-home
 set_text-requires-clause-home c = c.requires.sound.1.holds.home
 
 pub set_text-requires-clause-is_text : goal.set_text-requires-clause-is_text
 set_text-requires-clause-is_text c =
-    let u = record no_rest.state { own = record no_rest.state.own { forest = forest c.args.page.now c.args.w } } in
+    let u = record no_rest.state { own = record no_rest.state.own { forest = forest c.args.page.now c.args.w.index } } in
     sym (c.is_text_node.ensures u refl) ∙ c.if-is_text_node.true
 
 pub fill-requires-clause-sound : goal.fill-requires-clause-sound
@@ -38,7 +38,7 @@ fill-requires-clause-sound c = c.requires.sound
 
 pub returns-then-is_input-clause-done : goal.returns-then-is_input-clause-done
 returns-then-is_input-clause-done c =
-    let w = c.args.w in
+    let w = c.args.w.index in
     let p = c.args.page.now in
     let q = c.set_attr.new.page in
     let s = c.args.store.now in
@@ -49,19 +49,19 @@ returns-then-is_input-clause-done c =
     (λ e.
     changes_same w s s p q (λ u. with_forest u (relabels u.own.forest)) (λ u. valued t u m)
     (λ l fs x b d. let u = with_counts (image fs x w (beside s p l b)) d in value_of_input t u m (sym (c.is_input.ensures u refl) ∙ c.if-is_input.true))
-    (changes_page w c.requires.widget s p q c.set_attr.ensures.kept c.set_attr.ensures.others relabels
+    (changes_page w c.args.w.small s p q c.set_attr.ensures.kept c.set_attr.ensures.others relabels
     (e ∙ (λ j. relabel_in (with_attribute (c.requires.name j) (Some (c.in_ok-text.ensures j))) (forest p w) m))))
     c.set_attr.ensures.image
 
 pub returns-then-is_input-clause-kept : goal.returns-then-is_input-clause-kept
-returns-then-is_input-clause-kept c = λ l h. keeps_paged c.args.w c.requires.widget c.args.store.now c.args.store.now c.args.page.now c.set_attr.new.page l h (λ fs. kept_same fs c.args.w c.args.store.now c.args.store.now refl) c.set_attr.ensures.kept c.set_attr.ensures.others c.set_attr.ensures.host
+returns-then-is_input-clause-kept c = λ l h. keeps_paged c.args.w.index c.args.w.small c.args.store.now c.args.store.now c.args.page.now c.set_attr.new.page l h (λ fs. kept_same fs c.args.w.index c.args.store.now c.args.store.now refl) c.set_attr.ensures.kept c.set_attr.ensures.others c.set_attr.ensures.host
 
 pub returns-in_err-text-clause-kept : goal.returns-in_err-text-clause-kept
-returns-in_err-text-clause-kept c = λ l h. keeps_here c.args.w c.args.store.now c.args.page.now l h
+returns-in_err-text-clause-kept c = λ l h. keeps_here c.args.w.index c.args.store.now c.args.page.now l h
 
 pub returns-then-is_text_node-clause-done : goal.returns-then-is_text_node-clause-done
 returns-then-is_text_node-clause-done c =
-    let w = c.args.w in
+    let w = c.args.w.index in
     let p = c.args.page.now in
     let q = c.set_text.new.page in
     let s = c.args.store.now in
@@ -69,18 +69,18 @@ returns-then-is_text_node-clause-done c =
     let t = c.args.given.now.text in
     changes_same w s s p q (λ u. with_forest u (relabelled m (TextOf t) u.own.forest)) (λ u. valued t u m)
     (λ l fs x b d. let u = with_counts (image fs x w (beside s p l b)) d in value_of_text t u m (sym (c.is_input.ensures u refl) ∙ c.if-is_input.false) (sym (c.is_text_node.ensures u refl) ∙ c.if-is_text_node.true))
-    (changes_page w c.requires.widget s p q c.set_text.ensures.kept c.set_text.ensures.others (λ f. relabelled m (TextOf t) f)
+    (changes_page w c.args.w.small s p q c.set_text.ensures.kept c.set_text.ensures.others (λ f. relabelled m (TextOf t) f)
     (c.set_text.ensures.image ∙ ap (λ k. relabelled m (TextOf k) (forest p w)) c.in_ok-text-2.ensures))
 
 pub returns-then-is_text_node-clause-kept : goal.returns-then-is_text_node-clause-kept
-returns-then-is_text_node-clause-kept c = λ l h. keeps_paged c.args.w c.requires.widget c.args.store.now c.args.store.now c.args.page.now c.set_text.new.page l h (λ fs. kept_same fs c.args.w c.args.store.now c.args.store.now refl) c.set_text.ensures.kept c.set_text.ensures.others c.set_text.ensures.host
+returns-then-is_text_node-clause-kept c = λ l h. keeps_paged c.args.w.index c.args.w.small c.args.store.now c.args.store.now c.args.page.now c.set_text.new.page l h (λ fs. kept_same fs c.args.w.index c.args.store.now c.args.store.now refl) c.set_text.ensures.kept c.set_text.ensures.others c.set_text.ensures.host
 
 pub returns-in_err-text-2-clause-kept : goal.returns-in_err-text-2-clause-kept
-returns-in_err-text-2-clause-kept c = λ l h. keeps_here c.args.w c.args.store.now c.args.page.now l h
+returns-in_err-text-2-clause-kept c = λ l h. keeps_here c.args.w.index c.args.store.now c.args.page.now l h
 
 pub returns-clause-done : goal.returns-clause-done
 returns-clause-done c =
-    let w = c.args.w in
+    let w = c.args.w.index in
     let p = c.args.page.now in
     let s = c.args.store.now in
     let m = number p w c.args.node in

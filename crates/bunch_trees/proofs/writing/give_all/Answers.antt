@@ -13,19 +13,19 @@ use Rattle.bunch_trees.proofs.writing.give_all.Goals as goal
 
 pub each-init : goal.each-init
 each-init c = record {
-  done = changes_none c.args.w c.args.store.now c.args.page.now;
-  kept = λ k h. keeps_here c.args.w c.args.store.now c.args.page.now k h;
+  done = changes_none c.args.w.index c.args.store.now c.args.page.now;
+  kept = λ k h. keeps_here c.args.w.index c.args.store.now c.args.page.now k h;
 }
 
 pub give-requires-clause-sound : goal.give-requires-clause-sound
 give-requires-clause-sound c = (c.requires.sound.0, c.each.invariant.done.sound c.requires.sound.0 c.requires.sound.1)
 
 pub give-requires-clause-own : goal.give-requires-clause-own
-give-requires-clause-own c = (c.each.invariant.kept c.requires.sound.0 c.requires.sound.1.holds).page.owners c.args.w _ (c.requires.own _ (element_in c.args.nodes.now c.each.node-index c.each-test.true))
+give-requires-clause-own c = (c.each.invariant.kept c.requires.sound.0 c.requires.sound.1.holds).page.owners c.args.w.index _ (c.requires.own _ (element_in c.args.nodes.now c.each.node-index c.each-test.true))
 
 pub each-preserved : goal.each-preserved
 each-preserved c =
-    let w = c.args.w in
+    let w = c.args.w.index in
     let p = c.args.page.now in
     let r = c.each.page in
     let q = c.give.new.page in
@@ -52,7 +52,7 @@ each-preserved c =
 
 pub returns-clause-done : goal.returns-clause-done
 returns-clause-done c =
-    let w = c.args.w in
+    let w = c.args.w.index in
     let p = c.args.page.now in
     let s = c.args.store.now in
     let ns = c.args.nodes.now in
@@ -65,4 +65,4 @@ pub returns-clause-kept : goal.returns-clause-kept
 returns-clause-kept c = c.each.invariant.kept
 
 pub returns-in_err-give-clause-kept : goal.returns-in_err-give-clause-kept
-returns-in_err-give-clause-kept c = λ l h. keeps_then c.args.w c.args.store.now c.each.store c.give.new.store c.args.page.now c.each.page c.give.new.page l l (c.each.invariant.kept l h) (c.give.ensures.kept l (c.each.invariant.kept l h).holds)
+returns-in_err-give-clause-kept c = λ l h. keeps_then c.args.w.index c.args.store.now c.each.store c.give.new.store c.args.page.now c.each.page c.give.new.page l l (c.each.invariant.kept l h) (c.give.ensures.kept l (c.each.invariant.kept l h).holds)

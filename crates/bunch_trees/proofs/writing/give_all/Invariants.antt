@@ -10,6 +10,6 @@ use Rattle.bunch_trees.proofs.writing.give_all.Given as goal
 -- those before have it
 abbrev pub invariant-each : goal.invariant-each
 invariant-each l = record {
-  done : Changes l.w l.initial.store l.store l.initial.page l.page (λ s. fold (valued l.given.text) s (map (number l.initial.page l.w) (take l.node-index l.nodes)));
-  kept : (k : Loop) → HoldsOwn l.w l.initial.store l.initial.page k → KeepsAll l.w l.initial.store l.store l.initial.page l.page k;
+  done : Changes l.w.index l.initial.store l.store l.initial.page l.page (λ s. fold (valued l.given.text) s (map (number l.initial.page l.w.index) (take l.node-index l.nodes)));
+  kept : (k : Loop) → HoldsOwn l.w.index l.initial.store l.initial.page k → KeepsAll l.w.index l.initial.store l.store l.initial.page l.page k;
 }

@@ -10,7 +10,7 @@ use Rattle.bunch_write.proofs.calling.change.Goals as goal
 
 pub returns-in-Remove-clause-native : goal.returns-in-Remove-clause-native
 returns-in-Remove-clause-native c = λ b.
-    let w = c.args.w in
+    let w = c.args.w.index in
     let p = c.args.page.now in
     let l = c.args.around.now in
     let s = c.args.store.now in
@@ -26,7 +26,7 @@ returns-in-Remove-clause-kept c = c.remove.ensures.kept c.args.around.now c.requ
 
 pub returns-in-Empty-clause-native : goal.returns-in-Empty-clause-native
 returns-in-Empty-clause-native c = λ b.
-    let w = c.args.w in
+    let w = c.args.w.index in
     let p = c.args.page.now in
     let l = c.args.around.now in
     let s = c.args.store.now in
@@ -42,7 +42,7 @@ returns-in-Empty-clause-kept c = c.empty.ensures.kept c.args.around.now c.requir
 
 pub returns-in-Replace-clause-native : goal.returns-in-Replace-clause-native
 returns-in-Replace-clause-native c = λ b.
-    let w = c.args.w in
+    let w = c.args.w.index in
     let p = c.args.page.now in
     let l = c.args.around.now in
     let s = c.args.store.now in
@@ -58,7 +58,7 @@ returns-in-Replace-clause-kept c = c.replace.ensures.kept c.args.around.now c.re
 
 pub returns-in-SetStyle-clause-native : goal.returns-in-SetStyle-clause-native
 returns-in-SetStyle-clause-native c = λ b.
-    let w = c.args.w in
+    let w = c.args.w.index in
     let p = c.args.page.now in
     let l = c.args.around.now in
     let s = c.args.store.now in
@@ -74,7 +74,7 @@ returns-in-SetStyle-clause-kept c = c.set_style.ensures.kept c.args.around.now c
 
 pub returns-in-SetClass-clause-native : goal.returns-in-SetClass-clause-native
 returns-in-SetClass-clause-native c = λ b.
-    let w = c.args.w in
+    let w = c.args.w.index in
     let p = c.args.page.now in
     let l = c.args.around.now in
     let s = c.args.store.now in
@@ -90,7 +90,7 @@ returns-in-SetClass-clause-kept c = c.set_class.ensures.kept c.args.around.now c
 
 pub returns-in-SetTitle-clause-native : goal.returns-in-SetTitle-clause-native
 returns-in-SetTitle-clause-native c = λ b.
-    let w = c.args.w in
+    let w = c.args.w.index in
     let p = c.args.page.now in
     let l = c.args.around.now in
     let s = c.args.store.now in
@@ -106,7 +106,7 @@ returns-in-SetTitle-clause-kept c = c.set_title.ensures.kept c.args.around.now c
 
 pub returns-in-SetCheck-clause-native : goal.returns-in-SetCheck-clause-native
 returns-in-SetCheck-clause-native c = λ b.
-    let w = c.args.w in
+    let w = c.args.w.index in
     let p = c.args.page.now in
     let l = c.args.around.now in
     let s = c.args.store.now in
@@ -122,7 +122,7 @@ returns-in-SetCheck-clause-kept c = c.set_check.ensures.kept c.args.around.now c
 
 pub returns-in-SetEnabled-clause-native : goal.returns-in-SetEnabled-clause-native
 returns-in-SetEnabled-clause-native c = λ b.
-    let w = c.args.w in
+    let w = c.args.w.index in
     let p = c.args.page.now in
     let l = c.args.around.now in
     let s = c.args.store.now in
@@ -138,7 +138,7 @@ returns-in-SetEnabled-clause-kept c = c.set_enabled.ensures.kept c.args.around.n
 
 pub returns-in-Focus-clause-native : goal.returns-in-Focus-clause-native
 returns-in-Focus-clause-native c = λ b.
-    let w = c.args.w in
+    let w = c.args.w.index in
     let p = c.args.page.now in
     let l = c.args.around.now in
     let s = c.args.store.now in
@@ -154,7 +154,7 @@ returns-in-Focus-clause-kept c = c.focus.ensures.kept
 
 pub returns-in-Blur-clause-native : goal.returns-in-Blur-clause-native
 returns-in-Blur-clause-native c = λ b.
-    let w = c.args.w in
+    let w = c.args.w.index in
     let p = c.args.page.now in
     let l = c.args.around.now in
     let s = c.args.store.now in
@@ -170,7 +170,7 @@ returns-in-Blur-clause-kept c = c.blur.ensures.kept
 
 pub returns-in-On-clause-native : goal.returns-in-On-clause-native
 returns-in-On-clause-native c = λ b.
-    let w = c.args.w in
+    let w = c.args.w.index in
     let p = c.args.page.now in
     let l = c.args.around.now in
     let s = c.args.store.now in
@@ -186,7 +186,7 @@ returns-in-On-clause-kept c = c.listen.ensures.kept
 
 pub returns-in-Off-clause-native : goal.returns-in-Off-clause-native
 returns-in-Off-clause-native c = λ b.
-    let w = c.args.w in
+    let w = c.args.w.index in
     let p = c.args.page.now in
     let l = c.args.around.now in
     let s = c.args.store.now in
@@ -202,7 +202,7 @@ returns-in-Off-clause-kept c = c.hush.ensures.kept
 
 pub returns-in-Fire-clause-native : goal.returns-in-Fire-clause-native
 returns-in-Fire-clause-native c = λ b.
-    let w = c.args.w in
+    let w = c.args.w.index in
     let p = c.args.page.now in
     let l = c.args.around.now in
     let s = c.args.store.now in
@@ -214,11 +214,11 @@ returns-in-Fire-clause-native c = λ b.
     of_method w h h c.args.meter.now c.fire.new.meter ns b1 u v c.fire.result c.args.method method.Fire c.in-Fire.is (c.fire.ensures b)
 
 pub returns-in-Fire-clause-kept : goal.returns-in-Fire-clause-kept
-returns-in-Fire-clause-kept c = keeps_here c.args.w c.args.store.now c.args.page.now c.args.around.now c.requires.sound.holds
+returns-in-Fire-clause-kept c = keeps_here c.args.w.index c.args.store.now c.args.page.now c.args.around.now c.requires.sound.holds
 
 pub returns-in-Each-clause-native : goal.returns-in-Each-clause-native
 returns-in-Each-clause-native c = λ b.
-    let w = c.args.w in
+    let w = c.args.w.index in
     let p = c.args.page.now in
     let l = c.args.around.now in
     let s = c.args.store.now in
@@ -234,7 +234,7 @@ returns-in-Each-clause-kept c = c.each.ensures.kept
 
 pub returns-in-SetMark-clause-native : goal.returns-in-SetMark-clause-native
 returns-in-SetMark-clause-native c = λ b.
-    let w = c.args.w in
+    let w = c.args.w.index in
     let p = c.args.page.now in
     let l = c.args.around.now in
     let s = c.args.store.now in
@@ -250,7 +250,7 @@ returns-in-SetMark-clause-kept c = c.set_mark.ensures.kept
 
 pub returns-in-Protect-clause-native : goal.returns-in-Protect-clause-native
 returns-in-Protect-clause-native c = λ b.
-    let w = c.args.w in
+    let w = c.args.w.index in
     let p = c.args.page.now in
     let l = c.args.around.now in
     let s = c.args.store.now in
@@ -290,7 +290,7 @@ set_enabled-requires-clause-home c = c.requires.sound.holds.home
 
 pub returns-in-Append-clause-native : goal.returns-in-Append-clause-native
 returns-in-Append-clause-native c = λ b.
-    let w = c.args.w in
+    let w = c.args.w.index in
     let p = c.args.page.now in
     let l = c.args.around.now in
     let s = c.args.store.now in
@@ -309,7 +309,7 @@ append-requires-clause-sound c = (c.args.around.now, c.requires.sound)
 
 pub returns-in-SetValue-clause-native : goal.returns-in-SetValue-clause-native
 returns-in-SetValue-clause-native c = λ b.
-    let w = c.args.w in
+    let w = c.args.w.index in
     let p = c.args.page.now in
     let l = c.args.around.now in
     let s = c.args.store.now in

@@ -22,7 +22,7 @@ make_bunches-requires-clause-own c = c.requires.nodes.own
 
 pub returns-in_ok-settle-in-Ok-clause-ends : goal.returns-in_ok-settle-in-Ok-clause-ends
 returns-in_ok-settle-in-Ok-clause-ends c = λ b.
-    let w = c.args.w in
+    let w = c.args.w.index in
     let p = c.args.page.now in
     let l = c.args.around.now in
     let s = c.args.store.now in
@@ -50,7 +50,7 @@ returns-in_ok-settle-in-Ok-clause-ends c = λ b.
 pub returns-in_ok-settle-in-Ok-clause-kept : goal.returns-in_ok-settle-in-Ok-clause-kept
 returns-in_ok-settle-in-Ok-clause-kept c = record {
   store = c.make_bunches.ensures.kept;
-  page = page_same c.args.w c.args.page.now;
+  page = page_same c.args.w.index c.args.page.now;
   host = host_here c.args.page.now;
   holds = (c.make_bunches.ensures.sound c.args.around.now c.requires.sound).holds;
 }
@@ -58,7 +58,7 @@ returns-in_ok-settle-in-Ok-clause-kept c = record {
 pub returns-in_err-items-in-Ok-clause-kept : goal.returns-in_err-items-in-Ok-clause-kept
 returns-in_err-items-in-Ok-clause-kept c = record {
   store = c.make_bunches.ensures.kept;
-  page = page_same c.args.w c.args.page.now;
+  page = page_same c.args.w.index c.args.page.now;
   host = host_here c.args.page.now;
   holds = (c.make_bunches.ensures.sound c.args.around.now c.requires.sound).holds;
 }
@@ -66,14 +66,14 @@ returns-in_err-items-in-Ok-clause-kept c = record {
 pub returns-in_err-settle-in-Ok-clause-kept : goal.returns-in_err-settle-in-Ok-clause-kept
 returns-in_err-settle-in-Ok-clause-kept c = record {
   store = c.make_bunches.ensures.kept;
-  page = page_same c.args.w c.args.page.now;
+  page = page_same c.args.w.index c.args.page.now;
   host = host_here c.args.page.now;
   holds = (c.make_bunches.ensures.sound c.args.around.now c.requires.sound).holds;
 }
 
 pub returns-in-Err-clause-ends : goal.returns-in-Err-clause-ends
 returns-in-Err-clause-ends c = λ b.
-    let w = c.args.w in
+    let w = c.args.w.index in
     let p = c.args.page.now in
     let l = c.args.around.now in
     let s = c.args.store.now in
@@ -92,4 +92,4 @@ returns-in-Err-clause-ends c = λ b.
     }
 
 pub returns-in-Err-clause-kept : goal.returns-in-Err-clause-kept
-returns-in-Err-clause-kept c = keeps_here c.args.w c.args.store.now c.args.page.now c.args.around.now c.requires.sound.holds
+returns-in-Err-clause-kept c = keeps_here c.args.w.index c.args.store.now c.args.page.now c.args.around.now c.requires.sound.holds

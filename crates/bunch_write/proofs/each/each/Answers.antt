@@ -25,14 +25,14 @@ use Rattle.bunch_write.specs.Calls.{each_paid}
 use Rattle.bunch_write.proofs.each.each.Goals as goal
 
 pub function_of-requires : goal.function_of-requires
-function_of-requires c = within_of c.args.w c.args.store.now.cells c.args.func.now c.requires.func
+function_of-requires c = within_of c.args.w.index c.args.store.now.cells c.args.func.now c.requires.func
 
 pub calls-requires-clause-func : goal.calls-requires-clause-func
-calls-requires-clause-func c = subst (IsFine c.args.w c.args.store.now.cells) c.in-Some.ensures.cell c.requires.func
+calls-requires-clause-func c = subst (IsFine c.args.w.index c.args.store.now.cells) c.in-Some.ensures.cell c.requires.func
 
 pub returns-in-None-clause-native : goal.returns-in-None-clause-native
 returns-in-None-clause-native c = λ b.
-    let w = c.args.w in
+    let w = c.args.w.index in
     let s = c.args.store.now in
     let h = beside s c.args.page.now c.args.around.now b in
     let ns = map (number c.args.page.now w) c.args.list.now in
@@ -41,14 +41,14 @@ returns-in-None-clause-native c = λ b.
     at_thrown w h (λ d u. write_method Each ns v (f ∷ []) d u) fault.E4 c.args.meter.now c.requires.sound
     (λ fs x d.
     let u = image fs x w h in
-    unwanted E4 (is_own_function u f) u (charge (length ns) u (each_paid ns f v d u)) (c.function_of.ensures.own fs (rest w c.requires.widget x h) w c.requires.func ∙ ap is_some c.in-None.is))
+    unwanted E4 (is_own_function u f) u (charge (length ns) u (each_paid ns f v d u)) (c.function_of.ensures.own fs (rest w c.args.w.small x h) w c.requires.func ∙ ap is_some c.in-None.is))
 
 pub returns-in-None-clause-kept : goal.returns-in-None-clause-kept
-returns-in-None-clause-kept c = keeps_here c.args.w c.args.store.now c.args.page.now c.args.around.now c.requires.sound.holds
+returns-in-None-clause-kept c = keeps_here c.args.w.index c.args.store.now c.args.page.now c.args.around.now c.requires.sound.holds
 
 pub returns-in-Ok-clause-native : goal.returns-in-Ok-clause-native
 returns-in-Ok-clause-native c = λ b.
-    let w = c.args.w in
+    let w = c.args.w.index in
     let p = c.args.page.now in
     let s = c.args.store.now in
     let h = beside s p c.args.around.now b in
@@ -63,14 +63,14 @@ returns-in-Ok-clause-native c = λ b.
     at_same w h new (λ d u. write_method Each ns v (f ∷ []) d u) (λ d u. charge (length ns) u (each_paid ns g v d u)) o c.args.meter.now c.take.new.meter
     (λ fs x d.
     let u = image fs x w h in
-    wanted E4 (is_own_function u f) u (charge (length ns) u (each_paid ns f v d u)) (c.function_of.ensures.own fs (rest w c.requires.widget x h) w c.requires.func ∙ ap is_some c.in-Some.is)
+    wanted E4 (is_own_function u f) u (charge (length ns) u (each_paid ns f v d u)) (c.function_of.ensures.own fs (rest w c.args.w.small x h) w c.requires.func ∙ ap is_some c.in-Some.is)
     ∙ ap (λ k. charge (length ns) u (each_paid ns (seen w s.cells k) v d u)) c.in-Some.ensures.cell)
     (at_charged w h new (length ns) (each_paid ns g v) o c.args.meter.now c.take.new.meter taken.0 taken.1 ends))
     (c.calls.ensures.ends b)
 
 pub returns-in-Err-clause-native : goal.returns-in-Err-clause-native
 returns-in-Err-clause-native c = λ b.
-    let w = c.args.w in
+    let w = c.args.w.index in
     let p = c.args.page.now in
     let s = c.args.store.now in
     let h = beside s p c.args.around.now b in
@@ -80,9 +80,9 @@ returns-in-Err-clause-native c = λ b.
     at_same w h h (λ d u. write_method Each ns v (f ∷ []) d u) (λ d u. charge (length ns) u (each_paid ns f v d u)) native.OutOfFuel c.args.meter.now c.take.new.meter
     (λ fs x d.
     let u = image fs x w h in
-    wanted E4 (is_own_function u f) u (charge (length ns) u (each_paid ns f v d u)) (c.function_of.ensures.own fs (rest w c.requires.widget x h) w c.requires.func ∙ ap is_some c.in-Some.is))
+    wanted E4 (is_own_function u f) u (charge (length ns) u (each_paid ns f v d u)) (c.function_of.ensures.own fs (rest w c.args.w.small x h) w c.requires.func ∙ ap is_some c.in-Some.is))
     (subst (λ (k : Fuel). RefinesAt w h h c.args.meter.now k (λ d u. charge (length ns) u (each_paid ns f v d u)) native.OutOfFuel) (sym c.in-Err.ensures.same)
     (at_lacking w h (length ns) (each_paid ns f v) c.args.meter.now c.requires.sound (c.in-Err.ensures.err (length ns) (few_counted (number p w) c.args.list.now c.requires.nodes.few))))
 
 pub returns-in-Err-clause-kept : goal.returns-in-Err-clause-kept
-returns-in-Err-clause-kept c = keeps_here c.args.w c.args.store.now c.args.page.now c.args.around.now c.requires.sound.holds
+returns-in-Err-clause-kept c = keeps_here c.args.w.index c.args.store.now c.args.page.now c.args.around.now c.requires.sound.holds

@@ -19,7 +19,7 @@ use Rattle.bunch_write.proofs.making.dom_tag.Goals as goal
 
 pub returns-then-either_object-clause-native : goal.returns-then-either_object-clause-native
 returns-then-either_object-clause-native c = λ l b f this sound.
-    let w = c.args.w in
+    let w = c.args.w.index in
     let s = c.args.store.now in
     let h = beside s c.args.page.now l b in
     let a = seen w s.cells c.args.name.now in
@@ -28,20 +28,20 @@ returns-then-either_object-clause-native c = λ l b f this sound.
     (λ fs x d. let u = image fs x w h in objects_of a t u (dom_tag (to_text a) (given_text t) u) (sym (c.either_object.ensures w s.cells) ∙ c.if-either_object.true))
 
 pub returns-then-either_object-clause-kept : goal.returns-then-either_object-clause-kept
-returns-then-either_object-clause-kept c = λ l sound. keeps_here c.args.w c.args.store.now c.args.page.now l sound.holds
+returns-then-either_object-clause-kept c = λ l sound. keeps_here c.args.w.index c.args.store.now c.args.page.now l sound.holds
 
 pub returns-in_err-tag-clause-kept : goal.returns-in_err-tag-clause-kept
-returns-in_err-tag-clause-kept c = λ l sound. keeps_here c.args.w c.args.store.now c.args.page.now l sound.holds
+returns-in_err-tag-clause-kept c = λ l sound. keeps_here c.args.w.index c.args.store.now c.args.page.now l sound.holds
 
 pub returns-in_err-given-clause-kept : goal.returns-in_err-given-clause-kept
-returns-in_err-given-clause-kept c = λ l sound. keeps_here c.args.w c.args.store.now c.args.page.now l sound.holds
+returns-in_err-given-clause-kept c = λ l sound. keeps_here c.args.w.index c.args.store.now c.args.page.now l sound.holds
 
 pub returns-in_err-plain-clause-kept : goal.returns-in_err-plain-clause-kept
-returns-in_err-plain-clause-kept c = λ l sound. keeps_here c.args.w c.args.store.now c.args.page.now l sound.holds
+returns-in_err-plain-clause-kept c = λ l sound. keeps_here c.args.w.index c.args.store.now c.args.page.now l sound.holds
 
 pub returns-then-not-may_make-clause-native : goal.returns-then-not-may_make-clause-native
 returns-then-not-may_make-clause-native c = λ l b f this sound.
-    let w = c.args.w in
+    let w = c.args.w.index in
     let s = c.args.store.now in
     let h = beside s c.args.page.now l b in
     let a = seen w s.cells c.args.name.now in
@@ -53,14 +53,14 @@ returns-then-not-may_make-clause-native c = λ l b f this sound.
     ∙ bad_tag (to_text a) (given_text t) u c.in_ok-tag.tag c.in_ok-given.given (sym (c.in_ok-tag.ensures w s.cells)) (sym (c.in_ok-given.ensures w s.cells)) (ap (may_make c.in_ok-tag.tag) (sym c.as_ref.ensures.value) ∙ sym c.may_make.ensures ∙ c.if-not-may_make.true))
 
 pub returns-then-not-may_make-clause-kept : goal.returns-then-not-may_make-clause-kept
-returns-then-not-may_make-clause-kept c = λ l sound. keeps_here c.args.w c.args.store.now c.args.page.now l sound.holds
+returns-then-not-may_make-clause-kept c = λ l sound. keeps_here c.args.w.index c.args.store.now c.args.page.now l sound.holds
 
-pub give_node-requires-clause-sound : goal.give_node-requires-clause-sound
-give_node-requires-clause-sound c = c.requires.sound
+pub give_node-requires : goal.give_node-requires
+give_node-requires c = c.requires
 
 pub returns-clause-native : goal.returns-clause-native
 returns-clause-native c = λ l b f this sound.
-    let w = c.args.w in
+    let w = c.args.w.index in
     let s = c.args.store.now in
     let h = beside s c.args.page.now l b in
     let new = beside c.give_node.new.store c.give_node.new.page l b in

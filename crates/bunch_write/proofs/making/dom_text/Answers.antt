@@ -15,7 +15,7 @@ use Rattle.bunch_write.proofs.making.dom_text.Goals as goal
 
 pub returns-then-is_object-clause-native : goal.returns-then-is_object-clause-native
 returns-then-is_object-clause-native c = λ l b f this sound.
-    let w = c.args.w in
+    let w = c.args.w.index in
     let s = c.args.store.now in
     let h = beside s c.args.page.now l b in
     let t = seen w s.cells c.args.value.now in
@@ -23,17 +23,17 @@ returns-then-is_object-clause-native c = λ l b f this sound.
     (λ fs x d. let u = image fs x w h in object_of t u (give_node (TextOf (to_text t)) (length (to_text t)) u) (sym (c.is_object.ensures.object w s.cells) ∙ c.if-is_object.true))
 
 pub returns-then-is_object-clause-kept : goal.returns-then-is_object-clause-kept
-returns-then-is_object-clause-kept c = λ l sound. keeps_here c.args.w c.args.store.now c.args.page.now l sound.holds
+returns-then-is_object-clause-kept c = λ l sound. keeps_here c.args.w.index c.args.store.now c.args.page.now l sound.holds
 
 pub returns-in_err-text-clause-kept : goal.returns-in_err-text-clause-kept
-returns-in_err-text-clause-kept c = λ l sound. keeps_here c.args.w c.args.store.now c.args.page.now l sound.holds
+returns-in_err-text-clause-kept c = λ l sound. keeps_here c.args.w.index c.args.store.now c.args.page.now l sound.holds
 
-pub give_node-requires-clause-sound : goal.give_node-requires-clause-sound
-give_node-requires-clause-sound c = c.requires.sound
+pub give_node-requires : goal.give_node-requires
+give_node-requires c = c.requires
 
 pub returns-clause-native : goal.returns-clause-native
 returns-clause-native c = λ l b f this sound.
-    let w = c.args.w in
+    let w = c.args.w.index in
     let s = c.args.store.now in
     let h = beside s c.args.page.now l b in
     let new = beside c.give_node.new.store c.give_node.new.page l b in

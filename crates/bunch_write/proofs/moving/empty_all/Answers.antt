@@ -11,14 +11,14 @@ pub each-init : goal.each-init
 each-init c = record { image = refl; kept = nodes_same c.args.page.now; others = λ v lt ne. refl; host = host_here c.args.page.now }
 
 pub empty-requires-clause-home : goal.empty-requires-clause-home
-empty-requires-clause-home c = home_stays c.args.w c.requires.widget c.args.page.now c.each.page (page_keeps c.args.w c.args.page.now c.each.page c.each.invariant.kept c.each.invariant.others) c.requires.home
+empty-requires-clause-home c = home_stays c.args.w.index c.args.w.small c.args.page.now c.each.page (page_keeps c.args.w.index c.args.page.now c.each.page c.each.invariant.kept c.each.invariant.others) c.requires.home
 
 pub empty-requires-clause-own : goal.empty-requires-clause-own
-empty-requires-clause-own c = c.each.invariant.kept.owners c.args.w _ ∙ c.requires.own _ (element_in c.args.list.now c.each.node-index c.each-test.true)
+empty-requires-clause-own c = c.each.invariant.kept.owners c.args.w.index _ ∙ c.requires.own _ (element_in c.args.list.now c.each.node-index c.each-test.true)
 
 pub each-preserved : goal.each-preserved
 each-preserved c =
-    let w = c.args.w in
+    let w = c.args.w.index in
     let mid = c.each.page in
     let m = get_or c.args.list.now c.each.node-index 0 in
     record {
@@ -29,4 +29,4 @@ each-preserved c =
     }
 
 pub returns-clause-image : goal.returns-clause-image
-returns-clause-image c = c.each.invariant.image ∙ ap (fold emptied_in (forest c.args.page.now c.args.w)) (mapped_whole (number c.args.page.now c.args.w) c.args.list.now c.each.node-index c.each-test.false)
+returns-clause-image c = c.each.invariant.image ∙ ap (fold emptied_in (forest c.args.page.now c.args.w.index)) (mapped_whole (number c.args.page.now c.args.w.index) c.args.list.now c.each.node-index c.each-test.false)

@@ -20,7 +20,7 @@ bunch_of-requires-clause-held c = c.requires.sound.1.holds.bunches
 
 pub returns-then-list-ne1-clause-native : goal.returns-then-list-ne1-clause-native
 returns-then-list-ne1-clause-native c = λ l b sound.
-    let w = c.args.w in
+    let w = c.args.w.index in
     let p = c.args.page.now in
     let s = c.args.store.now in
     let ns = map (number p w) c.args.list.now in
@@ -30,11 +30,11 @@ returns-then-list-ne1-clause-native c = λ l b sound.
     (λ fs x d. replace_other (number p w) c.args.list.now t v (image fs x w (beside s p l b)) c.if-list-ne1.true)
 
 pub returns-then-list-ne1-clause-kept : goal.returns-then-list-ne1-clause-kept
-returns-then-list-ne1-clause-kept c = λ l sound. keeps_here c.args.w c.args.store.now c.args.page.now l sound.holds
+returns-then-list-ne1-clause-kept c = λ l sound. keeps_here c.args.w.index c.args.store.now c.args.page.now l sound.holds
 
 pub returns-in-None-clause-native : goal.returns-in-None-clause-native
 returns-in-None-clause-native c = λ l b sound.
-    let w = c.args.w in
+    let w = c.args.w.index in
     let p = c.args.page.now in
     let s = c.args.store.now in
     let ns = map (number p w) c.args.list.now in
@@ -44,7 +44,7 @@ returns-in-None-clause-native c = λ l b sound.
     (λ fs x d. replace_none (number p w) c.args.list.now t v (image fs x w (beside s p l b)) (omega arith) (c.in_ok-news.ensures.read fs x l b ∙ ap (option_map (λ ns. map (number p w) ns.items)) c.in-None.is))
 
 pub returns-in-None-clause-kept : goal.returns-in-None-clause-kept
-returns-in-None-clause-kept c = λ l sound. keeps_here c.args.w c.args.store.now c.args.page.now l sound.holds
+returns-in-None-clause-kept c = λ l sound. keeps_here c.args.w.index c.args.store.now c.args.page.now l sound.holds
 
 pub replace_by-requires-clause-home : goal.replace_by-requires-clause-home
 replace_by-requires-clause-home c = c.requires.sound.1.holds.home
@@ -53,11 +53,11 @@ pub replace_by-requires-clause-own : goal.replace_by-requires-clause-own
 replace_by-requires-clause-own c = c.requires.nodes.own _ (element_in c.args.list.now 0 (omega arith))
 
 pub replace_by-requires-clause-news : goal.replace_by-requires-clause-news
-replace_by-requires-clause-news c = some_own c.args.page.now c.args.w c.in_ok-news.field-0 c.in-Some.news c.deref.result.now c.in-Some.is c.deref.ensures.value c.in_ok-news.ensures.nodes
+replace_by-requires-clause-news c = some_own c.args.page.now c.args.w.index c.in_ok-news.field-0 c.in-Some.news c.deref.result.now c.in-Some.is c.deref.ensures.value c.in_ok-news.ensures.nodes
 
 pub returns-in-Some-clause-native : goal.returns-in-Some-clause-native
 returns-in-Some-clause-native c = λ l b sound.
-    let w = c.args.w in
+    let w = c.args.w.index in
     let p = c.args.page.now in
     let s = c.args.store.now in
     let h = beside s p l b in

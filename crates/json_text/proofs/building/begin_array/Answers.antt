@@ -11,8 +11,8 @@ returns-in_err-make-clause-kept c = λ fs. c.make.ensures.kept fs tt
 
 pub returns-clause-begun : goal.returns-clause-begun
 returns-clause-begun c = IfOk-weaker c.made.result _ _ (λ v h. λ fs r.
-    begun fs r c.args.w c.args.store.now c.make.new.store v (new_array 0 []) 0 refl refl
-    (c.in_ok-make.ensures.plan fs r give ∙ h c.args.w c.make.new.store.cells give (image fs r c.args.w c.make.new.store))) c.made.ensures.plan
+    begun fs r c.args.w.index c.args.store.now c.make.new.store v (new_array 0 []) 0 refl refl
+    (c.in_ok-make.ensures.plan fs r give ∙ h c.args.w.index c.make.new.store.cells give (image fs r c.args.w.index c.make.new.store))) c.made.ensures.plan
 
 pub returns-clause-kept : goal.returns-clause-kept
 returns-clause-kept c = λ fs. c.make.ensures.kept fs tt

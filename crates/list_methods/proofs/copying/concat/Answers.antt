@@ -12,7 +12,7 @@ use Rattle.widget_meaning.specs.ListChanges.{array_elements}
 use Rattle.list_methods.proofs.copying.concat.Goals as goal
 
 pub returns-in-Ok-clause-native : goal.returns-in-Ok-clause-native
-returns-in-Ok-clause-native c = IfOk-weaker c.all_elements.result _ _ (λ o h. refines_taken c.args.w c.args.store.now c.all_elements.new.store (λ s. list_extra c.args.array.len (all_seen c.args.w c.args.store.now.cells c.args.args.now) s) c.extra-asked.result c.extra-asked.ensures (λ d s. make_array (elements s (number c.args.w c.args.store.now c.args.array) c.args.array.len ++ flat_map (array_elements s) (all_seen c.args.w c.args.store.now.cells c.args.args.now)) 0 s give) c.args.meter.now c.take.new.meter o c.in-Ok.ensures.ok h) c.all_elements.ensures.native
+returns-in-Ok-clause-native c = IfOk-weaker c.all_elements.result _ _ (λ o h. refines_taken c.args.w.index c.args.store.now c.all_elements.new.store (λ s. list_extra c.args.array.len (all_seen c.args.w.index c.args.store.now.cells c.args.args.now) s) c.extra-asked.result c.extra-asked.ensures (λ d s. make_array (elements s (number c.args.w.index c.args.store.now c.args.array) c.args.array.len ++ flat_map (array_elements s) (all_seen c.args.w.index c.args.store.now.cells c.args.args.now)) 0 s give) c.args.meter.now c.take.new.meter o c.in-Ok.ensures.ok h) c.all_elements.ensures.native
 
 pub returns-in-Err-clause-native : goal.returns-in-Err-clause-native
-returns-in-Err-clause-native c = refines_wanting c.args.w c.args.store.now c.args.store.now (λ s. list_extra c.args.array.len (all_seen c.args.w c.args.store.now.cells c.args.args.now) s) c.extra-asked.result c.extra-asked.ensures (λ d s. make_array (elements s (number c.args.w c.args.store.now c.args.array) c.args.array.len ++ flat_map (array_elements s) (all_seen c.args.w c.args.store.now.cells c.args.args.now)) 0 s give) c.args.meter.now c.take.new.meter c.in-Err.ensures.err c.in-Err.ensures.same refl
+returns-in-Err-clause-native c = refines_wanting c.args.w.index c.args.store.now c.args.store.now (λ s. list_extra c.args.array.len (all_seen c.args.w.index c.args.store.now.cells c.args.args.now) s) c.extra-asked.result c.extra-asked.ensures (λ d s. make_array (elements s (number c.args.w.index c.args.store.now c.args.array) c.args.array.len ++ flat_map (array_elements s) (all_seen c.args.w.index c.args.store.now.cells c.args.args.now)) 0 s give) c.args.meter.now c.take.new.meter c.in-Err.ensures.err c.in-Err.ensures.same refl

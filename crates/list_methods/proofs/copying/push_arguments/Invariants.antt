@@ -8,5 +8,5 @@ use Rattle.list_methods.proofs.copying.push_arguments.Given as goal
 
 abbrev pub invariant-loop-v : goal.invariant-loop-v
 invariant-loop-v l =
-    ((fs : List Forest) (r : Rest) → all_seen l.w l.store.cells l.values.items ≡ all_seen l.w l.store.cells l.initial.values.items ++ flat_map (array_elements (image fs r l.w l.store)) (all_seen l.w l.store.cells (take l.v-index l.args)))
-    × AreFine l.w l.store.cells l.values.items
+    ((fs : List Forest) (r : Rest) → all_seen l.w.index l.store.cells l.values.items ≡ all_seen l.w.index l.store.cells l.initial.values.items ++ flat_map (array_elements (image fs r l.w.index l.store)) (all_seen l.w.index l.store.cells (take l.v-index l.args)))
+    × AreFine l.w.index l.store.cells l.values.items

@@ -14,12 +14,12 @@ use Rattle.list_methods.proofs.joining.give_joined.Goals as goal
 pub returns-then-joining-most-clause-native : goal.returns-then-joining-most-clause-native
 returns-then-joining-most-clause-native c = λ n is.
     let old = c.args.store.now in
-    let text : State → List ℕ = λ s. join_by joined_text c.args.joining.separator (elements s (number c.args.w old c.args.array) c.args.array.len) in
-    refines_short c.args.w old old (λ s. n s + length (text s)) (λ d s. make_text (text s) s (give (Text (text s)))) c.args.meter.now c.args.meter.now (λ fs r. omega (arith, is fs r, c.left-most.ensures.value)) refl refl
+    let text : State → List ℕ = λ s. join_by joined_text c.args.joining.separator (elements s (number c.args.w.index old c.args.array) c.args.array.len) in
+    refines_short c.args.w.index old old (λ s. n s + length (text s)) (λ d s. make_text (text s) s (give (Text (text s)))) c.args.meter.now c.args.meter.now (λ fs r. omega (arith, is fs r, c.left-most.ensures.value)) refl refl
 
 pub returns-in-None-clause-native : goal.returns-in-None-clause-native
 returns-in-None-clause-native c = λ n is.
-    let w = c.args.w in
+    let w = c.args.w.index in
     let old = c.args.store.now in
     let text : State → List ℕ = λ s. join_by joined_text c.args.joining.separator (elements s (number w old c.args.array) c.args.array.len) in
     let long = rw c.in-None.is at (c.in_ok-joined.ensures w old.cells) in
@@ -30,7 +30,7 @@ returns-in-None-clause-native c = λ n is.
 
 pub returns-clause-native : goal.returns-clause-native
 returns-clause-native c = λ n is.
-    let w = c.args.w in
+    let w = c.args.w.index in
     let old = c.args.store.now in
     let new = c.give_text.new.store in
     let text : State → List ℕ = λ s. join_by joined_text c.args.joining.separator (elements s (number w old c.args.array) c.args.array.len) in

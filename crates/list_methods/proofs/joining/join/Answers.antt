@@ -16,7 +16,7 @@ use Rattle.list_methods.proofs.joining.join.Goals as goal
 
 pub returns-then-is_object-clause-native : goal.returns-then-is_object-clause-native
 returns-then-is_object-clause-native c =
-    let w = c.args.w in
+    let w = c.args.w.index in
     let old = c.args.store.now in
     let n = number w old c.args.array in
     let len = c.args.array.len in
@@ -30,7 +30,7 @@ returns-then-is_object-clause-native c =
 
 pub returns-then-holds_objects-clause-native : goal.returns-then-holds_objects-clause-native
 returns-then-holds_objects-clause-native c =
-    let w = c.args.w in
+    let w = c.args.w.index in
     let old = c.args.store.now in
     let n = number w old c.args.array in
     let len = c.args.array.len in
@@ -44,7 +44,7 @@ returns-then-holds_objects-clause-native c =
 
 pub returns-clause-native : goal.returns-clause-native
 returns-clause-native c =
-    let w = c.args.w in
+    let w = c.args.w.index in
     let old = c.args.store.now in
     let n = number w old c.args.array in
     let len = c.args.array.len in

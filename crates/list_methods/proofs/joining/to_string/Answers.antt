@@ -16,11 +16,11 @@ use Rattle.list_methods.proofs.Plans.{join_is, join_object}
 use Rattle.list_methods.proofs.joining.to_string.Goals as goal
 
 pub returns-then-holds_objects-clause-native : goal.returns-then-holds_objects-clause-native
-returns-then-holds_objects-clause-native c = thrown c.args.w c.args.store.now (λ d s. array_to_string (number c.args.w c.args.store.now c.args.array) c.args.array.len s) fault.E4 c.args.meter.now (λ fs r d. join_object (number c.args.w c.args.store.now c.args.array) c.args.array.len (image fs r c.args.w c.args.store.now) (Text (codes ",")) (c.args.array.len + 1) refl (sym (c.holds_objects.ensures fs r) ∙ c.if-holds_objects.true))
+returns-then-holds_objects-clause-native c = thrown c.args.w.index c.args.store.now (λ d s. array_to_string (number c.args.w.index c.args.store.now c.args.array) c.args.array.len s) fault.E4 c.args.meter.now (λ fs r d. join_object (number c.args.w.index c.args.store.now c.args.array) c.args.array.len (image fs r c.args.w.index c.args.store.now) (Text (codes ",")) (c.args.array.len + 1) refl (sym (c.holds_objects.ensures fs r) ∙ c.if-holds_objects.true))
 
 pub returns-clause-native : goal.returns-clause-native
 returns-clause-native c =
-    let w = c.args.w in
+    let w = c.args.w.index in
     let old = c.args.store.now in
     let n = number w old c.args.array in
     let len = c.args.array.len in

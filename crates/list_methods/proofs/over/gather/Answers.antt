@@ -12,7 +12,7 @@ use Rattle.list_methods.proofs.over.gather.Goals as goal
 
 pub returns : goal.returns
 returns c = record {
-  native = ends_here c.args.w c.args.store.now (λ d s. call_each (seen c.args.w c.args.store.now.cells (value.Ref c.args.func)) (elements s (number c.args.w c.args.store.now c.args.calls.array) c.args.calls.array.len) 0 [] d s (gathered c.args.calls.keep (elements s (number c.args.w c.args.store.now c.args.calls.array) c.args.calls.array.len))) (native.Call (calls.Gather c.args.func c.in_ok-items.items c.args.calls.keep))
-      (λ fs r node d. λ j. call_each (seen c.args.w c.args.store.now.cells (value.Ref c.args.func)) (sym (c.in_ok-items.ensures.seen fs r) j) 0 [] d (image fs r c.args.w c.args.store.now) (gathered c.args.calls.keep (sym (c.in_ok-items.ensures.seen fs r) j)))
+  native = ends_here c.args.w.index c.args.store.now (λ d s. call_each (seen c.args.w.index c.args.store.now.cells (value.Ref c.args.func)) (elements s (number c.args.w.index c.args.store.now c.args.calls.array) c.args.calls.array.len) 0 [] d s (gathered c.args.calls.keep (elements s (number c.args.w.index c.args.store.now c.args.calls.array) c.args.calls.array.len))) (native.Call (calls.Gather c.args.func c.in_ok-items.items c.args.calls.keep))
+      (λ fs r node d. λ j. call_each (seen c.args.w.index c.args.store.now.cells (value.Ref c.args.func)) (sym (c.in_ok-items.ensures.seen fs r) j) 0 [] d (image fs r c.args.w.index c.args.store.now) (gathered c.args.calls.keep (sym (c.in_ok-items.ensures.seen fs r) j)))
       (c.requires.func, c.in_ok-items.ensures.fine);
 }

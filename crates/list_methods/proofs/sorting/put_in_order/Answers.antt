@@ -10,14 +10,14 @@ use Rattle.list_methods.specs.Arrays.{number}
 use Rattle.list_methods.proofs.sorting.put_in_order.Goals as goal
 
 pub change-requires-clause-values : goal.change-requires-clause-values
-change-requires-clause-values c = subst (AreFine c.args.w c.args.store.now.cells) (sym c.deref-2.ensures.value) (c.in_ok-values.ensures.fine c.args.w c.args.store.now.cells (subst (AreFine c.args.w c.args.store.now.cells) (sym c.deref.ensures.value) c.in_ok-all.ensures.fine))
+change-requires-clause-values c = subst (AreFine c.args.w.index c.args.store.now.cells) (sym c.deref-2.ensures.value) (c.in_ok-values.ensures.fine c.args.w.index c.args.store.now.cells (subst (AreFine c.args.w.index c.args.store.now.cells) (sym c.deref.ensures.value) c.in_ok-all.ensures.fine))
 
 pub change-requires-clause-given : goal.change-requires-clause-given
 change-requires-clause-given c = c.requires.array.held
 
 pub returns-clause-native : goal.returns-clause-native
 returns-clause-native c =
-    let w = c.args.w in
+    let w = c.args.w.index in
     let old = c.args.store.now in
     let n = number w old c.args.array in
     ok_ends_same w old c.change.new.store (λ d s. change n (sorted (elements s n c.args.array.len)) (Own n) s) (λ d s. change n (all_seen w old.cells c.deref-2.result.now) (seen w old.cells (value.Ref c.args.array.cell)) s) c.change.result

@@ -17,7 +17,7 @@ use Rattle.list_methods.proofs.sorting.sort.Goals as goal
 
 pub returns-then-has_order-clause-native : goal.returns-then-has_order-clause-native
 returns-then-has_order-clause-native c =
-    let w = c.args.w in
+    let w = c.args.w.index in
     let old = c.args.store.now in
     let n = number w old c.args.array in
     let len = c.args.array.len in
@@ -27,7 +27,7 @@ returns-then-has_order-clause-native c =
 
 pub returns-then-holds_objects-clause-native : goal.returns-then-holds_objects-clause-native
 returns-then-holds_objects-clause-native c =
-    let w = c.args.w in
+    let w = c.args.w.index in
     let old = c.args.store.now in
     let n = number w old c.args.array in
     let len = c.args.array.len in
@@ -37,7 +37,7 @@ returns-then-holds_objects-clause-native c =
 
 pub returns-in-Ok-clause-native : goal.returns-in-Ok-clause-native
 returns-in-Ok-clause-native c =
-    let w = c.args.w in
+    let w = c.args.w.index in
     let old = c.args.store.now in
     let new = c.put_in_order.new.store in
     let n = number w old c.args.array in
@@ -50,7 +50,7 @@ returns-in-Ok-clause-native c =
 
 pub returns-clause-native : goal.returns-clause-native
 returns-clause-native c =
-    let w = c.args.w in
+    let w = c.args.w.index in
     let old = c.args.store.now in
     let n = number w old c.args.array in
     let len = c.args.array.len in

@@ -19,25 +19,25 @@ pub new_indexes-fresh-requires : goal.new_indexes-fresh-requires
 new_indexes-fresh-requires c = c.requires.array.held.0
 
 pub returns-then-paid-ge-CELL_LIMIT-clause-native : goal.returns-then-paid-ge-CELL_LIMIT-clause-native
-returns-then-paid-ge-CELL_LIMIT-clause-native c = exchange_cells c.args.w c.args.store.now c.args.array c.counts-paid.result c.counts-paid.ensures.paid c.counts-paid.ensures.units c.args.taken.items c.args.left.now c.if-paid-ge-CELL_LIMIT.true
+returns-then-paid-ge-CELL_LIMIT-clause-native c = exchange_cells c.args.w.index c.args.store.now c.args.array c.counts-paid.result c.counts-paid.ensures.paid c.counts-paid.ensures.units c.args.taken.items c.args.left.now c.if-paid-ge-CELL_LIMIT.true
 
 pub returns-then-saturating_add-paid-clause-native : goal.returns-then-saturating_add-paid-clause-native
-returns-then-saturating_add-paid-clause-native c = exchange_slots c.args.w c.args.store.now c.args.array c.counts-paid.result c.counts-paid.ensures.paid c.counts-paid.ensures.units c.args.taken.items c.args.left.now c.if-paid-ge-CELL_LIMIT.false c.new_indexes-fresh.result
-    (λ fs r. c.new_indexes-fresh.ensures fs r c.args.w c.args.array.len c.requires.array.held (length_seen c.args.w c.args.store.now c.args.array c.requires.array fs r) ∙ ap (new_indexes (cell_at (image fs r c.args.w c.args.store.now) (number c.args.w c.args.store.now c.args.array))) c.in-Ok.ensures.1)
+returns-then-saturating_add-paid-clause-native c = exchange_slots c.args.w.index c.args.store.now c.args.array c.counts-paid.result c.counts-paid.ensures.paid c.counts-paid.ensures.units c.args.taken.items c.args.left.now c.if-paid-ge-CELL_LIMIT.false c.new_indexes-fresh.result
+    (λ fs r. c.new_indexes-fresh.ensures fs r c.args.w.index c.args.array.len c.requires.array.held (length_seen c.args.w.index c.args.store.now c.args.array c.requires.array fs r) ∙ ap (new_indexes (cell_at (image fs r c.args.w.index c.args.store.now) (number c.args.w.index c.args.store.now c.args.array))) c.in-Ok.ensures.1)
     (omega (arith, c.if-saturating_add-paid.true, c.counts-paid.ensures.slots))
 
 pub give_taken-requires-clause-array : goal.give_taken-requires-clause-array
-give_taken-requires-clause-array c = paid_array c.args.w c.args.store.now c.args.array c.requires.array c.pay_slots.new.store c.pay_slots.ensures.kept c.new_indexes-fresh.result (λ fs r k. c.pay_slots.ensures.plan fs r k ∙ ap (λ p. paid_plan p k (image fs r c.args.w c.pay_slots.new.store)) c.in-Done.is)
+give_taken-requires-clause-array c = paid_array c.args.w.index c.args.store.now c.args.array c.requires.array c.pay_slots.new.store c.pay_slots.ensures.kept c.new_indexes-fresh.result (λ fs r k. c.pay_slots.ensures.plan fs r k ∙ ap (λ p. paid_plan p k (image fs r c.args.w.index c.pay_slots.new.store)) c.in-Done.is)
 
 pub give_taken-requires-clause-taken : goal.give_taken-requires-clause-taken
-give_taken-requires-clause-taken c = all_stay c.args.w c.args.store.now.cells c.pay_slots.new.store.cells (c.pay_slots.ensures.kept []).grows c.args.taken.items c.requires.taken
+give_taken-requires-clause-taken c = all_stay c.args.w.index c.args.store.now.cells c.pay_slots.new.store.cells (c.pay_slots.ensures.kept []).grows c.args.taken.items c.requires.taken
 
 pub give_taken-requires-clause-left : goal.give_taken-requires-clause-left
-give_taken-requires-clause-left c = all_stay c.args.w c.args.store.now.cells c.pay_slots.new.store.cells (c.pay_slots.ensures.kept []).grows c.args.left.now c.requires.left
+give_taken-requires-clause-left c = all_stay c.args.w.index c.args.store.now.cells c.pay_slots.new.store.cells (c.pay_slots.ensures.kept []).grows c.args.left.now c.requires.left
 
 pub returns-in-Done-clause-native : goal.returns-in-Done-clause-native
 returns-in-Done-clause-native c =
-    let w = c.args.w in
+    let w = c.args.w.index in
     let old = c.args.store.now in
     let mid = c.pay_slots.new.store in
     let n = number w old c.args.array in
@@ -56,4 +56,4 @@ returns-in-Done-clause-native c =
     c.pay_slots.ensures.kept h) c.give_taken.ensures.native
 
 pub returns-in-Done-clause-memory : goal.returns-in-Done-clause-memory
-returns-in-Done-clause-memory c = on_err_weaker c.give_taken.result (λ kept fs. kept_then fs c.args.w c.args.store.now c.pay_slots.new.store c.give_taken.new.store (c.pay_slots.ensures.kept fs) (kept fs)) c.give_taken.ensures.memory
+returns-in-Done-clause-memory c = on_err_weaker c.give_taken.result (λ kept fs. kept_then fs c.args.w.index c.args.store.now c.pay_slots.new.store c.give_taken.new.store (c.pay_slots.ensures.kept fs) (kept fs)) c.give_taken.ensures.memory

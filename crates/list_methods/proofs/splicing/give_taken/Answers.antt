@@ -20,7 +20,7 @@ use Rattle.list_methods.proofs.splicing.give_taken.Goals as goal
 
 pub returns-in-Stop-clause-native : goal.returns-in-Stop-clause-native
 returns-in-Stop-clause-native c =
-    let w = c.args.w in
+    let w = c.args.w.index in
     let old = c.args.store.now in
     let new = c.make_array.new.store in
     let n = number w old c.args.array in
@@ -31,17 +31,17 @@ returns-in-Stop-clause-native c =
 
 pub fill-requires-clause-array : goal.fill-requires-clause-array
 fill-requires-clause-array c =
-    let w = c.args.w in
+    let w = c.args.w.index in
     let new = c.make_array.new.store in
     made_array w c.args.store.now c.args.array c.requires.array new (all_seen w c.args.store.now.cells c.args.taken.items) (seen w new.cells (value.Ref c.in-Cell.id))
     (λ fs r k. c.in_ok-made.ensures.plan fs r k ∙ ap (λ m. made_plan w new.cells m k (image fs r w new)) c.in-Cell.is) c.make_array.ensures.kept
 
 pub fill-requires-clause-values : goal.fill-requires-clause-values
-fill-requires-clause-values c = all_stay c.args.w c.args.store.now.cells c.make_array.new.store.cells (c.make_array.ensures.kept []).grows c.args.left.now c.requires.left
+fill-requires-clause-values c = all_stay c.args.w.index c.args.store.now.cells c.make_array.new.store.cells (c.make_array.ensures.kept []).grows c.args.left.now c.requires.left
 
 pub returns-in_ok-fill-in-Cell-clause-native : goal.returns-in_ok-fill-in-Cell-clause-native
 returns-in_ok-fill-in-Cell-clause-native c =
-    let w = c.args.w in
+    let w = c.args.w.index in
     let old = c.args.store.now in
     let mid = c.make_array.new.store in
     let new = c.fill.new.store in
@@ -62,4 +62,4 @@ returns-in_ok-fill-in-Cell-clause-native c =
     (λ fs. kept_then fs w old mid new (c.make_array.ensures.kept fs) (c.fill.ensures.kept fs))
 
 pub returns-in_err-fill-in-Cell-clause-memory : goal.returns-in_err-fill-in-Cell-clause-memory
-returns-in_err-fill-in-Cell-clause-memory c = on_err c.from_residual-in_err-fill-in-Cell.result _ (λ fs. kept_then fs c.args.w c.args.store.now c.make_array.new.store c.fill.new.store (c.make_array.ensures.kept fs) (c.fill.ensures.kept fs))
+returns-in_err-fill-in-Cell-clause-memory c = on_err c.from_residual-in_err-fill-in-Cell.result _ (λ fs. kept_then fs c.args.w.index c.args.store.now c.make_array.new.store c.fill.new.store (c.make_array.ensures.kept fs) (c.fill.ensures.kept fs))

@@ -26,7 +26,7 @@ use Rattle.list_methods.proofs.splicing.splice.Goals as goal
 
 pub returns-then-any_object-clause-native : goal.returns-then-any_object-clause-native
 returns-then-any_object-clause-native c =
-    let w = c.args.w in
+    let w = c.args.w.index in
     let old = c.args.store.now in
     let n = number w old c.args.array in
     let len = c.args.array.len in
@@ -36,7 +36,7 @@ returns-then-any_object-clause-native c =
 
 pub returns-in_default-clause-native : goal.returns-in_default-clause-native
 returns-in_default-clause-native c =
-    let w = c.args.w in
+    let w = c.args.w.index in
     let old = c.args.store.now in
     let n = number w old c.args.array in
     let len = c.args.array.len in
@@ -49,7 +49,7 @@ returns-in_default-clause-native c =
 
 pub returns-in_default-count_of-clause-native : goal.returns-in_default-count_of-clause-native
 returns-in_default-count_of-clause-native c =
-    let w = c.args.w in
+    let w = c.args.w.index in
     let old = c.args.store.now in
     let n = number w old c.args.array in
     let len = c.args.array.len in
@@ -61,11 +61,11 @@ returns-in_default-count_of-clause-native c =
     (c.charged-in_default-count_of.ensures w old (λ d t. Halt Number t) (λ t. list_extra len vs t) c.extra-asked.ensures (ends_here w old (λ d t. Halt Number t) (native.Stop cause.Number) (λ fs r node d. refl) tt))
 
 pub spliced-requires-clause-new : goal.spliced-requires-clause-new
-spliced-requires-clause-new c = subst (AreFine c.args.w c.args.store.now.cells) (sym c.behind_two.ensures) (all_left (IsFine c.args.w c.args.store.now.cells) 2 c.args.args.now c.requires.args)
+spliced-requires-clause-new c = subst (AreFine c.args.w.index c.args.store.now.cells) (sym c.behind_two.ensures) (all_left (IsFine c.args.w.index c.args.store.now.cells) 2 c.args.args.now c.requires.args)
 
 pub returns-in-Ok-clause-native : goal.returns-in-Ok-clause-native
 returns-in-Ok-clause-native c =
-    let w = c.args.w in
+    let w = c.args.w.index in
     let old = c.args.store.now in
     let new = c.spliced.new.store in
     let m = number w old c.args.array in
@@ -87,7 +87,7 @@ returns-in-Ok-clause-native c =
 
 pub returns-clause-native : goal.returns-clause-native
 returns-clause-native c =
-    let w = c.args.w in
+    let w = c.args.w.index in
     let old = c.args.store.now in
     let m = number w old c.args.array in
     let len = c.args.array.len in

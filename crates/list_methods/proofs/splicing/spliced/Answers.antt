@@ -10,14 +10,14 @@ use Rattle.list_methods.proofs.Splices.{left_fine, left_seen, taken_fine, taken_
 use Rattle.list_methods.proofs.splicing.spliced.Goals as goal
 
 pub exchange-requires-clause-taken : goal.exchange-requires-clause-taken
-exchange-requires-clause-taken c = taken_fine c.args.w c.args.store.now.cells c.in_ok-all.all.items c.args.cut.at c.args.cut.count c.in_ok-taken.taken.items c.in_ok-all.ensures.fine (c.in_ok-taken.ensures ∙ ap (λ l. slice_range l c.args.cut.at (c.args.cut.at + c.args.cut.count)) c.deref.ensures.value)
+exchange-requires-clause-taken c = taken_fine c.args.w.index c.args.store.now.cells c.in_ok-all.all.items c.args.cut.at c.args.cut.count c.in_ok-taken.taken.items c.in_ok-all.ensures.fine (c.in_ok-taken.ensures ∙ ap (λ l. slice_range l c.args.cut.at (c.args.cut.at + c.args.cut.count)) c.deref.ensures.value)
 
 pub exchange-requires-clause-left : goal.exchange-requires-clause-left
-exchange-requires-clause-left c = left_fine c.args.w c.args.store.now.cells c.in_ok-all.all.items c.args.cut.at c.args.cut.count c.args.new.now c.deref-3.result.now (c.deref-3.ensures.value ∙ c.in_ok-left.ensures ∙ ap (λ l. take c.args.cut.at l ++ (c.args.new.now ++ drop (c.args.cut.at + c.args.cut.count) l)) c.deref-2.ensures.value) c.in_ok-all.ensures.fine c.requires.new
+exchange-requires-clause-left c = left_fine c.args.w.index c.args.store.now.cells c.in_ok-all.all.items c.args.cut.at c.args.cut.count c.args.new.now c.deref-3.result.now (c.deref-3.ensures.value ∙ c.in_ok-left.ensures ∙ ap (λ l. take c.args.cut.at l ++ (c.args.new.now ++ drop (c.args.cut.at + c.args.cut.count) l)) c.deref-2.ensures.value) c.in_ok-all.ensures.fine c.requires.new
 
 pub returns-clause-native : goal.returns-clause-native
 returns-clause-native c =
-    let w = c.args.w in
+    let w = c.args.w.index in
     let old = c.args.store.now in
     let n = number w old c.args.array in
     let len = c.args.array.len in

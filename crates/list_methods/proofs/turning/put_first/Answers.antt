@@ -11,14 +11,14 @@ use Rattle.list_methods.proofs.Lists.{all_more}
 use Rattle.list_methods.proofs.turning.put_first.Goals as goal
 
 pub change-requires-clause-values : goal.change-requires-clause-values
-change-requires-clause-values c = subst (AreFine c.args.w c.args.store.now.cells) (sym (c.deref-2.ensures.value ∙ c.in_ok-values.ensures ∙ ap (λ l. c.args.args.now ++ l) c.deref.ensures.value)) (all_more (IsFine c.args.w c.args.store.now.cells) c.args.args.now c.in_ok-all.all.items c.requires.args c.in_ok-all.ensures.fine)
+change-requires-clause-values c = subst (AreFine c.args.w.index c.args.store.now.cells) (sym (c.deref-2.ensures.value ∙ c.in_ok-values.ensures ∙ ap (λ l. c.args.args.now ++ l) c.deref.ensures.value)) (all_more (IsFine c.args.w.index c.args.store.now.cells) c.args.args.now c.in_ok-all.all.items c.requires.args c.in_ok-all.ensures.fine)
 
 pub change-requires-clause-given : goal.change-requires-clause-given
-change-requires-clause-given c = subst (IsFine c.args.w c.args.store.now.cells) (sym c.number_value.ensures) tt
+change-requires-clause-given c = subst (IsFine c.args.w.index c.args.store.now.cells) (sym c.number_value.ensures) tt
 
 pub returns-clause-native : goal.returns-clause-native
 returns-clause-native c =
-    let w = c.args.w in
+    let w = c.args.w.index in
     let old = c.args.store.now in
     let n = number w old c.args.array in
     let len = c.args.array.len in

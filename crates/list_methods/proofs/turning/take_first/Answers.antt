@@ -14,14 +14,14 @@ use Rattle.list_methods.proofs.Lists.{all_at, all_left}
 use Rattle.list_methods.proofs.turning.take_first.Goals as goal
 
 pub change-requires-clause-values : goal.change-requires-clause-values
-change-requires-clause-values c = subst (AreFine c.args.w c.args.store.now.cells) (sym (c.rest.ensures ∙ ap (drop 1) c.deref-2.ensures.value)) (all_left (IsFine c.args.w c.args.store.now.cells) 1 c.in_ok-all.all.items c.in_ok-all.ensures.fine)
+change-requires-clause-values c = subst (AreFine c.args.w.index c.args.store.now.cells) (sym (c.rest.ensures ∙ ap (drop 1) c.deref-2.ensures.value)) (all_left (IsFine c.args.w.index c.args.store.now.cells) 1 c.in_ok-all.all.items c.in_ok-all.ensures.fine)
 
 pub change-requires-clause-given : goal.change-requires-clause-given
-change-requires-clause-given c = subst (IsFine c.args.w c.args.store.now.cells) (sym (c.in_ok-first.ensures ∙ ap (λ l. unwrap_or (slice_get l 0) value.Undefined) c.deref.ensures.value)) (all_at (IsFine c.args.w c.args.store.now.cells) c.in_ok-all.all.items 0 value.Undefined c.in_ok-all.ensures.fine tt)
+change-requires-clause-given c = subst (IsFine c.args.w.index c.args.store.now.cells) (sym (c.in_ok-first.ensures ∙ ap (λ l. unwrap_or (slice_get l 0) value.Undefined) c.deref.ensures.value)) (all_at (IsFine c.args.w.index c.args.store.now.cells) c.in_ok-all.all.items 0 value.Undefined c.in_ok-all.ensures.fine tt)
 
 pub returns-clause-native : goal.returns-clause-native
 returns-clause-native c =
-    let w = c.args.w in
+    let w = c.args.w.index in
     let old = c.args.store.now in
     let n = number w old c.args.array in
     let len = c.args.array.len in

@@ -16,7 +16,7 @@ use Rattle.list_methods.proofs.turning.unshift.Goals as goal
 
 pub returns-then-count-room-clause-native : goal.returns-then-count-room-clause-native
 returns-then-count-room-clause-native c =
-    let w = c.args.w in
+    let w = c.args.w.index in
     let old = c.args.store.now in
     let n = number w old c.args.array in
     let vs = all_seen w old.cells c.args.args.now in
@@ -28,7 +28,7 @@ put_first-requires-clause-few c = omega (arith, c.if-count-room.false, c.arg_cou
 
 pub returns-in-Ok-clause-native : goal.returns-in-Ok-clause-native
 returns-in-Ok-clause-native c =
-    let w = c.args.w in
+    let w = c.args.w.index in
     let old = c.args.store.now in
     let n = number w old c.args.array in
     let len = c.args.array.len in
@@ -39,7 +39,7 @@ returns-in-Ok-clause-native c =
 
 pub returns-in-Err-clause-native : goal.returns-in-Err-clause-native
 returns-in-Err-clause-native c =
-    let w = c.args.w in
+    let w = c.args.w.index in
     let old = c.args.store.now in
     let n = number w old c.args.array in
     let len = c.args.array.len in

@@ -12,15 +12,15 @@ use Rattle.native_common.proofs.Meeting.{ok_ends_same}
 use Rattle.native_common.proofs.Seen.{texts_fine, texts_seen}
 use Rattle.native_common.proofs.giving.give_texts.Goals as goal
 
-pub give_array-requires-clause-held : goal.give_array-requires-clause-held
-give_array-requires-clause-held c = subst (λ (vs : List Value). AreFine c.args.w c.args.store.now.cells vs) (sym c.in_ok-values.ensures) (texts_fine c.args.w c.args.store.now.cells c.args.parts.items)
+pub give_array-requires : goal.give_array-requires
+give_array-requires c = subst (λ (vs : List Value). AreFine c.args.w.index c.args.store.now.cells vs) (sym c.in_ok-values.ensures) (texts_fine c.args.w.index c.args.store.now.cells c.args.parts.items)
 
 pub returns-clause-native : goal.returns-clause-native
 returns-clause-native c =
-    ok_ends_same c.args.w c.args.store.now c.give_array.new.store (λ d s. forms.give_texts c.args.parts.items s) (λ d s. make_array (all_seen c.args.w c.args.store.now.cells c.in_ok-values.values.items) c.args.units s give) c.give_array.result
+    ok_ends_same c.args.w.index c.args.store.now c.give_array.new.store (λ d s. forms.give_texts c.args.parts.items s) (λ d s. make_array (all_seen c.args.w.index c.args.store.now.cells c.in_ok-values.values.items) c.args.units s give) c.give_array.result
     (λ fs r d.
-    let s = image fs r c.args.w c.args.store.now in
+    let s = image fs r c.args.w.index c.args.store.now in
     ap (λ b. if b then Halt meaning.LongText s else make_array (map meaning.Text c.args.parts.items) (sum_by length c.args.parts.items) s give) (ap (list_any is_too_long) (sym c.deref.ensures.value) ∙ sym c.any_long.ensures ∙ c.if-any_long.false)
-    ∙ ap (λ n. make_array (map meaning.Text c.args.parts.items) n s give) (sym c.requires.units)
-    ∙ ap (λ vs. make_array vs c.args.units s give) (sym (ap (all_seen c.args.w c.args.store.now.cells) c.in_ok-values.ensures ∙ texts_seen c.args.w c.args.store.now.cells c.args.parts.items)))
+    ∙ ap (λ n. make_array (map meaning.Text c.args.parts.items) n s give) (sym c.requires)
+    ∙ ap (λ vs. make_array vs c.args.units s give) (sym (ap (all_seen c.args.w.index c.args.store.now.cells) c.in_ok-values.ensures ∙ texts_seen c.args.w.index c.args.store.now.cells c.args.parts.items)))
     c.give_array.ensures.native

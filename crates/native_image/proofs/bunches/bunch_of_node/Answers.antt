@@ -8,14 +8,14 @@ use Rattle.native_image.proofs.Nodes.{one_apart, one_owned}
 use Rattle.native_image.proofs.bunches.bunch_of_node.Goals as goal
 
 pub make_bunch-requires-clause-own : goal.make_bunch-requires-clause-own
-make_bunch-requires-clause-own c = one_owned c.args.page.now c.args.w c.args.node c.in_ok-nodes.nodes.items c.in_ok-nodes.ensures c.requires.own
+make_bunch-requires-clause-own c = one_owned c.args.page.now c.args.w.index c.args.node c.in_ok-nodes.nodes.items c.in_ok-nodes.ensures c.requires.own
 
 pub make_bunch-requires-clause-apart : goal.make_bunch-requires-clause-apart
 make_bunch-requires-clause-apart c = one_apart c.args.node c.in_ok-nodes.nodes.items c.in_ok-nodes.ensures
 
 pub returns-in-Cell-clause-made : goal.returns-in-Cell-clause-made
 returns-in-Cell-clause-made c = λ l holds.
-    let w = c.args.w in
+    let w = c.args.w.index in
     let p = c.args.page.now in
     let old = c.args.store.now in
     let new = c.make_bunch.new.store in

@@ -9,9 +9,9 @@ use Rattle.native_image.proofs.bunches.make_bunches.Goals as goal
 
 pub each-init : goal.each-init
 each-init c = (
-  λ k holds. subst (AreBunches c.args.w c.args.store.now c.args.store.now c.args.page.now k []) (sym c.new-values.ensures.items) (none_made c.args.w c.args.store.now c.args.store.now c.args.store.now c.args.page.now k),
+  λ k holds. subst (AreBunches c.args.w.index c.args.store.now c.args.store.now c.args.page.now k []) (sym c.new-values.ensures.items) (none_made c.args.w.index c.args.store.now c.args.store.now c.args.store.now c.args.page.now k),
   λ k sound. sound,
-  store_same c.args.w c.args.store.now,
+  store_same c.args.w.index c.args.store.now,
 )
 
 pub bunch_of_node-requires-clause-sound : goal.bunch_of_node-requires-clause-sound
@@ -22,7 +22,7 @@ bunch_of_node-requires-clause-own c = c.requires.own _ (has_at c.args.nodes.now 
 
 pub each-preserved : goal.each-preserved
 each-preserved c =
-    let w = c.args.w in
+    let w = c.args.w.index in
     let p = c.args.page.now in
     let old = c.args.store.now in
     let mid = c.each.store in
@@ -36,7 +36,7 @@ each-preserved c =
     )
 
 pub returns-clause-made : goal.returns-clause-made
-returns-clause-made c = λ k holds. subst (λ ns. AreBunches c.args.w c.args.store.now c.each.store c.args.page.now k (map (number c.args.page.now c.args.w) ns) c.each.values.items) (take_all c.each.node-index c.args.nodes.now c.each-test.false) (c.each.invariant.0 k holds)
+returns-clause-made c = λ k holds. subst (λ ns. AreBunches c.args.w.index c.args.store.now c.each.store c.args.page.now k (map (number c.args.page.now c.args.w.index) ns) c.each.values.items) (take_all c.each.node-index c.args.nodes.now c.each-test.false) (c.each.invariant.0 k holds)
 
 pub returns-in_err-value-clause-sound : goal.returns-in_err-value-clause-sound
 returns-in_err-value-clause-sound c = λ l sound. c.bunch_of_node.ensures.sound l (c.each.invariant.1 l sound)
@@ -45,7 +45,7 @@ pub returns-in_err-keep-clause-sound : goal.returns-in_err-keep-clause-sound
 returns-in_err-keep-clause-sound c = λ l sound. c.bunch_of_node.ensures.sound l (c.each.invariant.1 l sound)
 
 pub returns-in_err-value-clause-kept : goal.returns-in_err-value-clause-kept
-returns-in_err-value-clause-kept c = store_then c.args.w c.args.store.now c.each.store c.bunch_of_node.new.store c.each.invariant.2 c.bunch_of_node.ensures.kept
+returns-in_err-value-clause-kept c = store_then c.args.w.index c.args.store.now c.each.store c.bunch_of_node.new.store c.each.invariant.2 c.bunch_of_node.ensures.kept
 
 pub returns-in_err-keep-clause-kept : goal.returns-in_err-keep-clause-kept
-returns-in_err-keep-clause-kept c = store_then c.args.w c.args.store.now c.each.store c.bunch_of_node.new.store c.each.invariant.2 c.bunch_of_node.ensures.kept
+returns-in_err-keep-clause-kept c = store_then c.args.w.index c.args.store.now c.each.store c.bunch_of_node.new.store c.each.invariant.2 c.bunch_of_node.ensures.kept

@@ -8,6 +8,6 @@ use Rattle.native_image.proofs.bunches.make_bunches.Given as goal
 -- those of the nodes before are made
 abbrev pub invariant-each : goal.invariant-each
 invariant-each l =
-    ((k : Loop) → HoldsOwn l.w l.initial.store l.page k → AreBunches l.w l.initial.store l.store l.page k (map (number l.page l.w) (take l.node-index l.nodes)) l.values.items)
-    × ((k : Loop) → IsSound l.w l.initial.store l.page k → IsSound l.w l.store l.page k)
-    × KeepsStore l.w l.initial.store l.store
+    ((k : Loop) → HoldsOwn l.w.index l.initial.store l.page k → AreBunches l.w.index l.initial.store l.store l.page k (map (number l.page l.w.index) (take l.node-index l.nodes)) l.values.items)
+    × ((k : Loop) → IsSound l.w.index l.initial.store l.page k → IsSound l.w.index l.store l.page k)
+    × KeepsStore l.w.index l.initial.store l.store

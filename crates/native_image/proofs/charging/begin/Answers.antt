@@ -17,11 +17,11 @@ returns-in-Done-clause-begun c = λ n q e is. record {
 
 pub returns-in-Stop-clause-refused : goal.returns-in-Stop-clause-refused
 returns-in-Stop-clause-refused c = λ n q k e is.
-    refines_charged c.args.w c.args.store.now c.pay.new.store n (λ d s. pay_for q s (k d)) (native.Stop c.in-Stop.cause) c.args.meter.now c.take.new.meter
+    refines_charged c.args.w.index c.args.store.now c.pay.new.store n (λ d s. pay_for q s (k d)) (native.Stop c.in-Stop.cause) c.args.meter.now c.take.new.meter
     (c.in-Ok.ensures.ok n e).0 (c.in-Ok.ensures.ok n e).1
     (record { leaves = λ fs r node d. c.in-Stop.ensures.plan q is fs r (k d); fine = tt; kept = c.in-Stop.ensures.kept })
 
 pub returns-in-Err-clause-refused : goal.returns-in-Err-clause-refused
 returns-in-Err-clause-refused c = λ n q k e is.
-    subst (λ (f : Fuel). Refines c.args.w c.args.store.now c.args.store.now c.args.meter.now f (λ d s. charge n s (pay_for q s (k d))) native.OutOfFuel) (sym c.in-Err.ensures.same)
-    (refines_lacking c.args.w c.args.store.now n (λ d s. pay_for q s (k d)) c.args.meter.now (c.in-Err.ensures.err n e))
+    subst (λ (f : Fuel). Refines c.args.w.index c.args.store.now c.args.store.now c.args.meter.now f (λ d s. charge n s (pay_for q s (k d))) native.OutOfFuel) (sym c.in-Err.ensures.same)
+    (refines_lacking c.args.w.index c.args.store.now n (λ d s. pay_for q s (k d)) c.args.meter.now (c.in-Err.ensures.err n e))

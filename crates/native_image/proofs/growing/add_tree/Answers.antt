@@ -10,12 +10,12 @@ overflow_sub-many c =
       arith,
       c.made-before.ensures.exact,
       c.made.ensures.exact,
-      so_many c.args.w c.args.page.now c.add_plain.new.page c.in_ok-id.id _ _ c.in_ok-id.ensures.grown,
+      so_many c.args.w.index c.args.page.now c.add_plain.new.page c.in_ok-id.id _ _ c.in_ok-id.ensures.grown,
     )
 
 pub returns-clause-sound : goal.returns-clause-sound
 returns-clause-sound c =
-    sound_grown c.args.w c.requires c.args.store.now c.add_cells.new.store c.args.page.now c.add_plain.new.page c.in_ok-id.id _ _ c.in_ok-id.ensures.grown (λ fs. c.add_cells.ensures.kept fs c.args.w)
+    sound_grown c.args.w.index c.args.w.small c.args.store.now c.add_cells.new.store c.args.page.now c.add_plain.new.page c.in_ok-id.id _ _ c.in_ok-id.ensures.grown (λ fs. c.add_cells.ensures.kept fs c.args.w.index)
     (λ n le lt.
     c.in_ok-add_cells.ensures.there n le
     (omega (
@@ -23,24 +23,24 @@ returns-clause-sound c =
       lt,
       c.made-before.ensures.exact,
       c.made.ensures.exact,
-      so_many c.args.w c.args.page.now c.add_plain.new.page c.in_ok-id.id _ _ c.in_ok-id.ensures.grown,
+      so_many c.args.w.index c.args.page.now c.add_plain.new.page c.in_ok-id.id _ _ c.in_ok-id.ensures.grown,
     )))
 
 pub returns-clause-kept : goal.returns-clause-kept
-returns-clause-kept c = keeps_grown c.args.w c.requires c.args.store.now c.add_cells.new.store c.args.page.now c.add_plain.new.page c.in_ok-id.id _ _ c.in_ok-id.ensures.grown (λ fs. c.add_cells.ensures.kept fs c.args.w)
+returns-clause-kept c = keeps_grown c.args.w.index c.args.w.small c.args.store.now c.add_cells.new.store c.args.page.now c.add_plain.new.page c.in_ok-id.id _ _ c.in_ok-id.ensures.grown (λ fs. c.add_cells.ensures.kept fs c.args.w.index)
 
 pub returns-in_err-add_cells-clause-kept : goal.returns-in_err-add_cells-clause-kept
-returns-in_err-add_cells-clause-kept c = keeps_grown c.args.w c.requires c.args.store.now c.add_cells.new.store c.args.page.now c.add_plain.new.page c.in_ok-id.id _ _ c.in_ok-id.ensures.grown (λ fs. c.add_cells.ensures.kept fs c.args.w)
+returns-in_err-add_cells-clause-kept c = keeps_grown c.args.w.index c.args.w.small c.args.store.now c.add_cells.new.store c.args.page.now c.add_plain.new.page c.in_ok-id.id _ _ c.in_ok-id.ensures.grown (λ fs. c.add_cells.ensures.kept fs c.args.w.index)
 
 pub returns-clause-store : goal.returns-clause-store
-returns-clause-store c = λ fs. c.add_cells.ensures.kept fs c.args.w
+returns-clause-store c = λ fs. c.add_cells.ensures.kept fs c.args.w.index
 
 pub returns-in_err-add_cells-clause-store : goal.returns-in_err-add_cells-clause-store
-returns-in_err-add_cells-clause-store c = λ fs. c.add_cells.ensures.kept fs c.args.w
+returns-in_err-add_cells-clause-store c = λ fs. c.add_cells.ensures.kept fs c.args.w.index
 
 pub returns-in_err-id-clause-store : goal.returns-in_err-id-clause-store
-returns-in_err-id-clause-store c = λ fs. kept_same fs c.args.w c.args.store.now c.args.store.now refl
+returns-in_err-id-clause-store c = λ fs. kept_same fs c.args.w.index c.args.store.now c.args.store.now refl
 
 pub returns-in_err-id-clause-kept : goal.returns-in_err-id-clause-kept
 returns-in_err-id-clause-kept c = λ l holds.
-    keeps_paged c.args.w c.requires c.args.store.now c.args.store.now c.args.page.now c.add_plain.new.page l holds (λ fs. kept_same fs c.args.w c.args.store.now c.args.store.now refl) c.in_err-id.ensures.kept c.in_err-id.ensures.others c.in_err-id.ensures.host
+    keeps_paged c.args.w.index c.args.w.small c.args.store.now c.args.store.now c.args.page.now c.add_plain.new.page l holds (λ fs. kept_same fs c.args.w.index c.args.store.now c.args.store.now refl) c.in_err-id.ensures.kept c.in_err-id.ensures.others c.in_err-id.ensures.host

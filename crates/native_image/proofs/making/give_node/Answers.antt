@@ -7,12 +7,12 @@ use Rattle.native_image.specs.Weights.{amounts}
 use Rattle.native_image.proofs.Keeping.{keeps_here}
 use Rattle.native_image.proofs.making.give_node.Goals as goal
 
-pub make_node-requires-clause-sound : goal.make_node-requires-clause-sound
-make_node-requires-clause-sound c = c.requires.sound
+pub make_node-requires : goal.make_node-requires
+make_node-requires c = c.requires
 
 pub returns-in_ok-settle-in-Ok-clause-ends : goal.returns-in_ok-settle-in-Ok-clause-ends
 returns-in_ok-settle-in-Ok-clause-ends c = λ l b label u is e sound.
-    let w = c.args.w in
+    let w = c.args.w.index in
     let made = c.in_ok-value-in-Ok.ensures.made l label is sound.holds in
     let new = beside c.make_node.new.store c.make_node.new.page l b in
     record {
@@ -34,4 +34,4 @@ returns-in-Err-clause-ends c = λ l b label u is e sound. record {
 }
 
 pub returns-in-Err-clause-kept : goal.returns-in-Err-clause-kept
-returns-in-Err-clause-kept c = λ l sound. keeps_here c.args.w c.args.store.now c.args.page.now l sound.holds
+returns-in-Err-clause-kept c = λ l sound. keeps_here c.args.w.index c.args.store.now c.args.page.now l sound.holds

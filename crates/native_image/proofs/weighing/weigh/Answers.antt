@@ -10,20 +10,20 @@ use Rattle.native_image.proofs.weighing.weigh.Goals as goal
 pub returns-then-bill-paid-clause-stop : goal.returns-then-bill-paid-clause-stop
 returns-then-bill-paid-clause-stop c = λ u m e f fs x l b go.
     let k = c.counts-paid.result in
-    units_over c.args.w c.args.store.now c.args.page.now k c.counts-paid.ensures.paid fs x l b u c.args.bill.cells c.args.bill.slots m go
+    units_over c.args.w.index c.args.store.now c.args.page.now k c.counts-paid.ensures.paid fs x l b u c.args.bill.cells c.args.bill.slots m go
     (over_yes max_units (k.units + u) (omega (arith, e)))
 
 pub returns-then-bill-paid-2-clause-stop : goal.returns-then-bill-paid-2-clause-stop
 returns-then-bill-paid-2-clause-stop c = λ u m e f fs x l b go.
     let k = c.counts-paid.result in
-    cells_over c.args.w c.args.store.now c.args.page.now k c.counts-paid.ensures.paid fs x l b u c.args.bill.cells c.args.bill.slots m go
+    cells_over c.args.w.index c.args.store.now c.args.page.now k c.counts-paid.ensures.paid fs x l b u c.args.bill.cells c.args.bill.slots m go
     (over_no max_units (k.units + u) (omega (arith, e)))
     (over_yes max_cells (k.cells + c.args.bill.cells) (omega arith))
 
 pub returns-then-bill-paid-3-clause-stop : goal.returns-then-bill-paid-3-clause-stop
 returns-then-bill-paid-3-clause-stop c = λ u m e f fs x l b go.
     let k = c.counts-paid.result in
-    slots_over c.args.w c.args.store.now c.args.page.now k c.counts-paid.ensures.paid fs x l b u c.args.bill.cells c.args.bill.slots m go
+    slots_over c.args.w.index c.args.store.now c.args.page.now k c.counts-paid.ensures.paid fs x l b u c.args.bill.cells c.args.bill.slots m go
     (over_no max_units (k.units + u) (omega (arith, e)))
     (over_no max_cells (k.cells + c.args.bill.cells) (omega arith))
     (over_yes max_slots (k.slots + c.args.bill.slots) (omega arith))
@@ -31,19 +31,19 @@ returns-then-bill-paid-3-clause-stop c = λ u m e f fs x l b go.
 pub returns-then-bill-nodes-clause-stop : goal.returns-then-bill-nodes-clause-stop
 returns-then-bill-nodes-clause-stop c = λ u m e f fs x l b go.
     let k = c.counts-paid.result in
-    nodes_over c.args.w c.args.store.now c.args.page.now k c.counts-paid.ensures.paid fs x l b u c.args.bill.cells c.args.bill.slots m go
+    nodes_over c.args.w.index c.args.store.now c.args.page.now k c.counts-paid.ensures.paid fs x l b u c.args.bill.cells c.args.bill.slots m go
     (over_no max_units (k.units + u) (omega (arith, e)))
     (over_no max_cells (k.cells + c.args.bill.cells) (omega arith))
     (over_no max_slots (k.slots + c.args.bill.slots) (omega arith))
-    (over_yes max_nodes (length (own c.args.page.now c.args.w) + m) (omega (arith, f, c.made-nodes.ensures.exact)))
+    (over_yes max_nodes (length (own c.args.page.now c.args.w.index) + m) (omega (arith, f, c.made-nodes.ensures.exact)))
 
 pub returns-clause-due : goal.returns-clause-due
 returns-clause-due c = λ u m e f fs x l b go.
     let k = c.counts-paid.result in
-    all_within c.args.w c.args.store.now c.args.page.now k c.counts-paid.ensures.paid fs x l b u c.args.bill.cells c.args.bill.slots m go
+    all_within c.args.w.index c.args.store.now c.args.page.now k c.counts-paid.ensures.paid fs x l b u c.args.bill.cells c.args.bill.slots m go
     (over_no max_units (k.units + u) (omega (arith, e)))
     (over_no max_cells (k.cells + c.args.bill.cells) (omega arith))
     (over_no max_slots (k.slots + c.args.bill.slots) (omega arith))
-    (over_no max_nodes (length (own c.args.page.now c.args.w) + m) (omega (arith, f, c.made-nodes.ensures.exact)))
+    (over_no max_nodes (length (own c.args.page.now c.args.w.index) + m) (omega (arith, f, c.made-nodes.ensures.exact)))
     (amounts _)
     (omega (arith, e)) (omega arith) (omega arith) (omega (arith, f, c.made-nodes.ensures.exact))

@@ -19,19 +19,19 @@ pub call-requires-clause-part : goal.call-requires-clause-part
 call-requires-clause-part c = subst (λ f. is_of f c.args.native.now.which ≡ true) (sym c.room_of.ensures ∙ c.in-Texts.is) (in_room c.args.native.now.which)
 
 pub call-requires-clause-args : goal.call-requires-clause-args
-call-requires-clause-args c = subst (AreFine c.args.w c.args.store.now.cells) (sym c.as_slice-args.ensures) c.requires.args
+call-requires-clause-args c = subst (AreFine c.args.w.index c.args.store.now.cells) (sym c.as_slice-args.ensures) c.requires.args
 
 pub call-requires-in-Lists-clause-part : goal.call-requires-in-Lists-clause-part
 call-requires-in-Lists-clause-part c = subst (λ f. is_of f c.args.native.now.which ≡ true) (sym c.room_of.ensures ∙ c.in-Lists.is) (in_room c.args.native.now.which)
 
 pub call-requires-in-Lists-clause-args : goal.call-requires-in-Lists-clause-args
-call-requires-in-Lists-clause-args c = subst (AreFine c.args.w c.args.store.now.cells) (sym c.as_slice-args.ensures) c.requires.args
+call-requires-in-Lists-clause-args c = subst (AreFine c.args.w.index c.args.store.now.cells) (sym c.as_slice-args.ensures) c.requires.args
 
 pub adsafe_native-requires-clause-part : goal.adsafe_native-requires-clause-part
 adsafe_native-requires-clause-part c = subst (λ f. is_of f c.args.native.now.which ≡ true) (sym c.room_of.ensures ∙ c.in-Adsafe.is) (in_room c.args.native.now.which)
 
 pub adsafe_native-requires-clause-args : goal.adsafe_native-requires-clause-args
-adsafe_native-requires-clause-args c = subst (AreFine c.args.w c.args.store.now.cells) (sym c.as_slice-args.ensures) c.requires.args
+adsafe_native-requires-clause-args c = subst (AreFine c.args.w.index c.args.store.now.cells) (sym c.as_slice-args.ensures) c.requires.args
 
 pub call-requires-in-Reads-clause-part : goal.call-requires-in-Reads-clause-part
 call-requires-in-Reads-clause-part c = subst (λ f. is_of f c.args.native.now.which ≡ true) (sym c.room_of.ensures ∙ c.in-Reads.is) (in_room c.args.native.now.which)
@@ -40,11 +40,11 @@ pub call-requires-in-Writes-clause-part : goal.call-requires-in-Writes-clause-pa
 call-requires-in-Writes-clause-part c = subst (λ f. is_of f c.args.native.now.which ≡ true) (sym c.room_of.ensures ∙ c.in-Writes.is) (in_room c.args.native.now.which)
 
 pub call-requires-in-Writes-clause-args : goal.call-requires-in-Writes-clause-args
-call-requires-in-Writes-clause-args c = subst (AreFine c.args.w c.args.store.now.cells) (sym c.as_slice-args.ensures) c.requires.args
+call-requires-in-Writes-clause-args c = subst (AreFine c.args.w.index c.args.store.now.cells) (sym c.as_slice-args.ensures) c.requires.args
 
 pub returns-in-Texts-clause-native : goal.returns-in-Texts-clause-native
 returns-in-Texts-clause-native c =
-    let w = c.args.w in
+    let w = c.args.w.index in
     let s = c.args.store.now in
     let p = c.args.page.now in
     let l = c.args.around.now in
@@ -57,16 +57,16 @@ returns-in-Texts-clause-native c =
     let same = ap (all_seen w s.cells) c.as_slice-args.ensures in
     let t = c.call.new.store in
     as_called w (reach s p l b log posts) (reach t p l b log posts) c.args.meter.now c.call.new.meter c.args.native.now.which this this vs ws c.call.result refl same
-    (store_whole w log posts c.requires.widget s t p l b c.requires.sound c.args.meter.now c.call.new.meter (run_native c.args.native.now.which this vs) c.call.result c.call.ensures.native)
+    (store_whole w log posts c.args.w.small s t p l b c.requires.sound c.args.meter.now c.call.new.meter (run_native c.args.native.now.which this vs) c.call.result c.call.ensures.native)
 
 pub returns-in-Texts-clause-kept : goal.returns-in-Texts-clause-kept
 returns-in-Texts-clause-kept c =
-    store_keeps c.args.w c.args.store.now c.call.new.store c.args.page.now c.args.around.now c.requires.sound
-    (refines_kept c.args.w c.args.store.now c.call.new.store c.args.meter.now c.call.new.meter _ c.call.result c.call.ensures.native c.call.ensures.memory)
+    store_keeps c.args.w.index c.args.store.now c.call.new.store c.args.page.now c.args.around.now c.requires.sound
+    (refines_kept c.args.w.index c.args.store.now c.call.new.store c.args.meter.now c.call.new.meter _ c.call.result c.call.ensures.native c.call.ensures.memory)
 
 pub returns-in-Lists-clause-native : goal.returns-in-Lists-clause-native
 returns-in-Lists-clause-native c =
-    let w = c.args.w in
+    let w = c.args.w.index in
     let s = c.args.store.now in
     let p = c.args.page.now in
     let l = c.args.around.now in
@@ -79,16 +79,16 @@ returns-in-Lists-clause-native c =
     let same = ap (all_seen w s.cells) c.as_slice-args.ensures in
     let t = c.call-in-Lists.new.store in
     as_called w (reach s p l b log posts) (reach t p l b log posts) c.args.meter.now c.call-in-Lists.new.meter c.args.native.now.which this this vs ws c.call-in-Lists.result refl same
-    (store_whole w log posts c.requires.widget s t p l b c.requires.sound c.args.meter.now c.call-in-Lists.new.meter (run_native c.args.native.now.which this vs) c.call-in-Lists.result c.call-in-Lists.ensures.native)
+    (store_whole w log posts c.args.w.small s t p l b c.requires.sound c.args.meter.now c.call-in-Lists.new.meter (run_native c.args.native.now.which this vs) c.call-in-Lists.result c.call-in-Lists.ensures.native)
 
 pub returns-in-Lists-clause-kept : goal.returns-in-Lists-clause-kept
 returns-in-Lists-clause-kept c =
-    store_keeps c.args.w c.args.store.now c.call-in-Lists.new.store c.args.page.now c.args.around.now c.requires.sound
-    (refines_kept c.args.w c.args.store.now c.call-in-Lists.new.store c.args.meter.now c.call-in-Lists.new.meter _ c.call-in-Lists.result c.call-in-Lists.ensures.native c.call-in-Lists.ensures.memory)
+    store_keeps c.args.w.index c.args.store.now c.call-in-Lists.new.store c.args.page.now c.args.around.now c.requires.sound
+    (refines_kept c.args.w.index c.args.store.now c.call-in-Lists.new.store c.args.meter.now c.call-in-Lists.new.meter _ c.call-in-Lists.result c.call-in-Lists.ensures.native c.call-in-Lists.ensures.memory)
 
 pub returns-in-Adsafe-clause-native : goal.returns-in-Adsafe-clause-native
 returns-in-Adsafe-clause-native c =
-    let w = c.args.w in
+    let w = c.args.w.index in
     let s = c.args.store.now in
     let p = c.args.page.now in
     let l = c.args.around.now in
@@ -109,7 +109,7 @@ returns-in-Adsafe-clause-kept c = c.adsafe_native.ensures.kept c.args.page.now c
 
 pub returns-in-Reads-clause-native : goal.returns-in-Reads-clause-native
 returns-in-Reads-clause-native c =
-    let w = c.args.w in
+    let w = c.args.w.index in
     let s = c.args.store.now in
     let p = c.args.page.now in
     let l = c.args.around.now in
@@ -127,11 +127,11 @@ returns-in-Reads-clause-native c =
     (λ o h. whole_at w log posts (beside s p l b) (beside n.store p l b) c.args.meter.now n.meter plan o (h.refines b)) c.call-in-Reads.ensures.native)
 
 pub returns-in-Reads-clause-kept : goal.returns-in-Reads-clause-kept
-returns-in-Reads-clause-kept c = record { store = c.call-in-Reads.ensures.kept; page = page_same c.args.w c.args.page.now; host = host_here c.args.page.now; holds = c.call-in-Reads.ensures.holds }
+returns-in-Reads-clause-kept c = record { store = c.call-in-Reads.ensures.kept; page = page_same c.args.w.index c.args.page.now; host = host_here c.args.page.now; holds = c.call-in-Reads.ensures.holds }
 
 pub returns-in-Writes-clause-native : goal.returns-in-Writes-clause-native
 returns-in-Writes-clause-native c =
-    let w = c.args.w in
+    let w = c.args.w.index in
     let s = c.args.store.now in
     let p = c.args.page.now in
     let l = c.args.around.now in

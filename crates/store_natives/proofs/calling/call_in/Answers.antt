@@ -22,14 +22,14 @@ call_silent-requires-clause-silent c = (subst (λ r. IsOf r c.args.which) c.in-A
 
 pub returns-in-Texts-clause-native : goal.returns-in-Texts-clause-native
 returns-in-Texts-clause-native c =
-    let w = c.args.w in
+    let w = c.args.w.index in
     let s = c.args.store.now in
     let plan = run_native c.args.which (receiver w s.cells c.args.this.now) (all_seen w s.cells c.args.args.now) in
     IfOk-weaker c.call.result _ _ (λ o h. refines_silent w s c.call.new.store c.args.meter.now c.call.new.meter plan o h) c.call.ensures.native
 
 pub returns-in-Lists-clause-native : goal.returns-in-Lists-clause-native
 returns-in-Lists-clause-native c =
-    let w = c.args.w in
+    let w = c.args.w.index in
     let s = c.args.store.now in
     let plan = run_native c.args.which (receiver w s.cells c.args.this.now) (all_seen w s.cells c.args.args.now) in
     IfOk-weaker c.call-in-Lists.result _ _ (λ o h. refines_silent w s c.call-in-Lists.new.store c.args.meter.now c.call-in-Lists.new.meter plan o h) c.call-in-Lists.ensures.native

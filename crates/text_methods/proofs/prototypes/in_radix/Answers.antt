@@ -16,14 +16,14 @@ use Rattle.text_methods.proofs.prototypes.in_radix.Goals as goal
 
 pub returns-in_default-clause-native : goal.returns-in_default-clause-native
 returns-in_default-clause-native c =
-    stops c.args.w c.args.store.now (λ d s. prototypes.in_radix (plain (value.Num c.args.n)) (seen c.args.w c.args.store.now.cells c.args.radix.now) s) cause.Number 0 0 c.args.meter.now c.charged.new.meter c.charged.result
-    (λ plan m. c.charged.ensures c.args.w c.args.store.now plan m) refl
-    (λ fs r d. wants_one (seen c.args.w c.args.store.now.cells c.args.radix.now) (image fs r c.args.w c.args.store.now) _ (sym c.if-is_object.false ∙ c.is_object.ensures.object c.args.w c.args.store.now.cells)
-    ∙ optional_not (pos 10) (seen c.args.w c.args.store.now.cells c.args.radix.now) 0 (image fs r c.args.w c.args.store.now) (λ z. costs.want meaning.E7 (prototypes.is_radix z) (image fs r c.args.w c.args.store.now) (prototypes.give_made (prototypes.number_text (plain (value.Num c.args.n)) z) (image fs r c.args.w c.args.store.now))) (sym c.in_default.is ∙ c.optional_number.ensures c.args.w c.args.store.now.cells))
+    stops c.args.w.index c.args.store.now (λ d s. prototypes.in_radix (plain (value.Num c.args.n)) (seen c.args.w.index c.args.store.now.cells c.args.radix.now) s) cause.Number 0 0 c.args.meter.now c.charged.new.meter c.charged.result
+    (λ plan m. c.charged.ensures c.args.w.index c.args.store.now plan m) refl
+    (λ fs r d. wants_one (seen c.args.w.index c.args.store.now.cells c.args.radix.now) (image fs r c.args.w.index c.args.store.now) _ (sym c.if-is_object.false ∙ c.is_object.ensures.object c.args.w.index c.args.store.now.cells)
+    ∙ optional_not (pos 10) (seen c.args.w.index c.args.store.now.cells c.args.radix.now) 0 (image fs r c.args.w.index c.args.store.now) (λ z. costs.want meaning.E7 (prototypes.is_radix z) (image fs r c.args.w.index c.args.store.now) (prototypes.give_made (prototypes.number_text (plain (value.Num c.args.n)) z) (image fs r c.args.w.index c.args.store.now))) (sym c.in_default.is ∙ c.optional_number.ensures c.args.w.index c.args.store.now.cells))
 
 pub returns-in_ok-text-in-Some-valid_radix-clause-native : goal.returns-in_ok-text-in-Some-valid_radix-clause-native
 returns-in_ok-text-in-Some-valid_radix-clause-native c =
-    let w = c.args.w in let old = c.args.store.now in let radix = seen w old.cells c.args.radix.now in
+    let w = c.args.w.index in let old = c.args.store.now in let radix = seen w old.cells c.args.radix.now in
     let n = plain (value.Num c.args.n) in
     let same : to_z w64 (of_z w64 c.in-Some.r) ≡ c.in-Some.r = search rules in
     let given = c.in-Some-valid_radix.ensures in
@@ -34,7 +34,7 @@ returns-in_ok-text-in-Some-valid_radix-clause-native c =
 
 pub returns-in-None-clause-native : goal.returns-in-None-clause-native
 returns-in-None-clause-native c =
-    let w = c.args.w in let old = c.args.store.now in let radix = seen w old.cells c.args.radix.now in
+    let w = c.args.w.index in let old = c.args.store.now in let radix = seen w old.cells c.args.radix.now in
     let n = plain (value.Num c.args.n) in
     let same : to_z w64 (of_z w64 c.in-Some.r) ≡ c.in-Some.r = search rules in
     throws w old (λ d s. prototypes.in_radix n radix s) fault.E7 c.args.meter.now

@@ -21,8 +21,8 @@ overflow_cast-made c =
     let f = few_units n (sum_by length ps) c.args.meter.now.left c.take.new.meter.left c.units_in-made.result paid.0 few (omega arith) made in
     search (rules, f.1)
 
-pub give_texts-requires-clause-units : goal.give_texts-requires-clause-units
-give_texts-requires-clause-units c =
+pub give_texts-requires : goal.give_texts-requires
+give_texts-requires c =
     let ps = c.in_ok-parts.parts.items in
     let n = c.text_len.result + (c.text_len-2.result + sum_by length ps) in
     let made : c.units_in-made.result ≡ counted (sum_by length ps) = c.units_in-made.ensures ∙ ap (λ (l : List (List ℕ)). counted (sum_by length l)) c.deref.ensures.value in
@@ -33,7 +33,7 @@ give_texts-requires-clause-units c =
 
 pub returns-in-Ok-clause-native : goal.returns-in-Ok-clause-native
 returns-in-Ok-clause-native c =
-    let w = c.args.w in let old = c.args.store.now in let v = seen w old.cells c.args.x.now in
+    let w = c.args.w.index in let old = c.args.store.now in let v = seen w old.cells c.args.x.now in
     let separator : c.in_ok-separator.separator ≡ to_text v = c.in_ok-separator.ensures w old.cells in
     let ps = c.in_ok-parts.parts.items in
     let all = texts.pieces (to_text v) c.args.t.now in
@@ -48,7 +48,7 @@ returns-in-Ok-clause-native c =
     ∙ (λ j. counted (first j + (second j + total j))) in
     let t = c.in-Ok.ensures.ok n asked in
     ok_refines_same w old c.give_texts.new.store (λ d s. texts.split c.args.t.now v s) (λ d s. charge n s (forms.give_texts all s)) c.give_texts.result c.args.meter.now c.take.new.meter
-    (λ fs r d. split_is w old.cells c.args.t.now c.args.x.now (image fs r w old) c.requires.there
+    (λ fs r d. split_is w old.cells c.args.t.now c.args.x.now (image fs r w old) c.requires
     ∙ wants_one v (image fs r w old) (charge n (image fs r w old) (forms.give_texts all (image fs r w old))) (sym c.if-is_object.false ∙ c.is_object.ensures.object w old.cells))
     (ok_charged w old c.give_texts.new.store n (λ d s. forms.give_texts all s) c.give_texts.result c.args.meter.now c.take.new.meter t.0 t.1
     (ok_ends_same w old c.give_texts.new.store (λ d s. forms.give_texts all s) (λ d s. forms.give_texts ps s) c.give_texts.result
