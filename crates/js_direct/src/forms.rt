@@ -59,7 +59,7 @@ pub(crate) fn eval_on(
     form_on(here, run, store, id, deep - 1, out)
 }
 
-/// The same, where most are names and numbers: these are read in place.
+/// The same, where most are names and numbers: these are read in place, and operators and subscripts begun here.
 #[inline(always)]
 #[cycle(direct)]
 pub(crate) fn operand_on(
@@ -91,6 +91,14 @@ pub(crate) fn operand_on(
         Expr::Num(numeral) => {
             run.units -= 1;
             number_on(here, store, numeral, out)
+        }
+        Expr::Binary(op, a, b) if deep > 0 => {
+            run.units -= 1;
+            binary_on(here, run, store, *op, (*a, *b), deep - 1, out)
+        }
+        Expr::Sub(e, index) if deep > 0 => {
+            run.units -= 1;
+            sub_on(here, run, store, (*e, *index), deep - 1, out)
         }
         _ => eval_on(here, run, store, id, deep, out),
     }

@@ -2703,6 +2703,38 @@ forms::operand_on-returns-in-Num-clause-comes t c =
     (λ x. and_then_ret (body j x) ∙ at_eval fs code f c.args.id c.expr.result.now c.requires.tree c.expr.ensures.same pl x ∙ ap (λ (e : Expr). expression (plain_form (forest_at fs code) e) pl x) c.in-Num.is) (h has c.requires.ready.2) (omega arith))
     c.number_on.ensures.comes
 
+pub forms::operand_on-returns-in-Binary-clause-comes : goal.forms::operand_on-returns-in-Binary-clause-comes
+forms::operand_on-returns-in-Binary-clause-comes t c =
+    let fs = trees_of c.args.here.now.site.now.codes.now.items in
+    let w = c.args.here.now.site.now.widget in
+    let s = c.args.store.now in
+    let at = c.args.here.now.at in
+    let f = trees c.args.here.now.tree.now in
+    let g = forest_at fs at.code in
+    let pl = place_of w s.cells at in
+    let j = job_of fs w s.cells (job.Eval c.args.id at) in
+    let todo : State → Plan = λ x. Do (job_of fs w s.cells (job.Eval c.in-Binary.a at)) x (taken fs w s.cells (frame.Form (form.Right c.in-Binary.op c.in-Binary.b at))) in
+    IfOk-weaker c.binary_on.result _ _
+    (λ how h. unit_first fs w s c.binary_on.new.store 30 0 j todo Ret c.args.run.now _ c.binary_on.new.run how (ended_as how c.binary_on.new.out) (less_one c.args.run.now.units c.if-run-eq0.false)
+    (λ x. and_then_ret (body j x) ∙ at_eval fs at.code f c.args.id c.expr.result.now c.requires.tree c.expr.ensures.same pl x ∙ ap (λ (e : Expr). expression (plain_form g e) pl x) c.in-Binary.is) h (omega arith))
+    c.binary_on.ensures.comes
+
+pub forms::operand_on-returns-in-Sub-clause-comes : goal.forms::operand_on-returns-in-Sub-clause-comes
+forms::operand_on-returns-in-Sub-clause-comes t c =
+    let fs = trees_of c.args.here.now.site.now.codes.now.items in
+    let w = c.args.here.now.site.now.widget in
+    let s = c.args.store.now in
+    let at = c.args.here.now.at in
+    let f = trees c.args.here.now.tree.now in
+    let g = forest_at fs at.code in
+    let pl = place_of w s.cells at in
+    let j = job_of fs w s.cells (job.Eval c.args.id at) in
+    let todo : State → Plan = λ x. Do (job_of fs w s.cells (job.Eval c.in-Sub.e at)) x (taken fs w s.cells (frame.Form (form.SubBase c.in-Sub.index at))) in
+    IfOk-weaker c.sub_on.result _ _
+    (λ how h. unit_first fs w s c.sub_on.new.store 30 0 j todo Ret c.args.run.now _ c.sub_on.new.run how (ended_as how c.sub_on.new.out) (less_one c.args.run.now.units c.if-run-eq0.false)
+    (λ x. and_then_ret (body j x) ∙ at_eval fs at.code f c.args.id c.expr.result.now c.requires.tree c.expr.ensures.same pl x ∙ ap (λ (e : Expr). expression (plain_form g e) pl x) c.in-Sub.is) h (omega arith))
+    c.sub_on.ensures.comes
+
 pub forms::form_on-returns-in-Name-clause-comes : goal.forms::form_on-returns-in-Name-clause-comes
 forms::form_on-returns-in-Name-clause-comes t c =
     let fs = trees_of c.args.here.now.site.now.codes.now.items in
