@@ -11,7 +11,6 @@
 use crate::journals::{journal_of, wanted_journal};
 use crate::lines::has_lines;
 use adhost_run::run;
-use anyhow::{Result, bail};
 use host_io::{MemFiles, MemSink};
 use serde_json::Value;
 use std::alloc::Global;
@@ -23,75 +22,76 @@ const ROOM: u64 = 1_000_000;
 
 // How a run ended: its status, what the sink holds, and the picks that the host kept which is left,
 // where the case says any.
-#[derive(Drop, PartialEq, Eq)]
+#[derive(Drop)]
 struct Ending {
-    status: u64,
+    status: u8,
     out: Vec<u8>,
     journal: String,
 }
 
 /// Whether the command line of a case ends as is wanted.
-pub fn ends_as_wanted(alloc: Global, case: &Value) -> Result<bool> {
-    let ends = ending_of(alloc, case)?;
-    if case.get("lines").is_none() {
-        return Ok(ends == wanted(alloc, case)?);
+pub fn ends_as_wanted(alloc: Global, case: &Value) -> Option<bool> {
+    let ending = ending_of(alloc, case)?;
+    let is_status = case.get("status")?.as_u64()? == ending.status as u64;
+    let is_journal = ending.journal == wanted_journal(alloc, case)?;
+    Some(is_out(alloc, &ending.out, case)? && is_status && is_journal)
+}
+
+// Whether what was written is what a case says.
+fn is_out(alloc: Global, out: &[u8], case: &Value) -> Option<bool> {
+    match list_at(case, "lines") {
+        Some(lines) => has_lines(alloc, str::from_utf8(out).ok()?, lines),
+        None => Some(out == bytes_of(alloc, case.get("out")?)?.as_slice()),
     }
-    let is_status = case.get("status").and_then(Value::as_u64) == Some(ends.status);
-    let lines = str::from_utf8(&ends.out)?;
-    Ok(is_status && has_lines(alloc, lines, list_at(case, "lines")?)?)
 }
 
 // How the command line of a case ends.
-fn ending_of(alloc: Global, case: &Value) -> Result<Ending> {
+fn ending_of(alloc: Global, case: &Value) -> Option<Ending> {
     let words = words_of(alloc, case)?;
     let mut files = mem_files(alloc, case)?;
     let mut sink = sink_of(alloc, case)?;
     let mut stage = None;
-    let status = run(alloc, &words, &mut files, &mut sink, &mut stage);
-    Ok(Ending {
-        status: status.number() as u64,
-        out: sink.held().to_vec(alloc)?,
-        journal: journal_left(alloc, case, &stage)?,
+    let status = status_of(alloc, &words, &mut files, &mut sink, &mut stage);
+    let journal = journal_left(alloc, case, &stage)?;
+    Some(Ending {
+        status,
+        out: sink.held().to_vec(alloc).ok()?,
+        journal,
     })
+}
+
+// The number of the status of a run. It has no clause, so that nobody has to look through those of `run`.
+fn status_of(
+    alloc: Global,
+    words: &[String],
+    files: &mut MemFiles,
+    sink: &mut MemSink,
+    stage: &mut Option<Host>,
+) -> u8 {
+    run(alloc, words, files, sink, stage).number()
 }
 
 // The picks that the host kept which is left, where the case says any.
-fn journal_left(alloc: Global, case: &Value, stage: &Option<Host>) -> Result<String> {
+fn journal_left(alloc: Global, case: &Value, stage: &Option<Host>) -> Option<String> {
     match stage {
         Some(host) if case.get("journal").is_some() => journal_of(alloc, host),
-        _ => Ok(String::new(alloc)),
+        _ => Some(String::new(alloc)),
     }
 }
 
-// How it is to end.
-fn wanted(alloc: Global, case: &Value) -> Result<Ending> {
-    let Some(status) = case.get("status").and_then(Value::as_u64) else {
-        bail!("a case has no status");
-    };
-    let Some(out) = case.get("out") else {
-        bail!("a case has no out");
-    };
-    Ok(Ending {
-        status,
-        out: bytes_of(alloc, out)?,
-        journal: wanted_journal(alloc, case)?,
-    })
-}
-
-fn words_of(alloc: Global, case: &Value) -> Result<Vec<String>> {
+fn words_of(alloc: Global, case: &Value) -> Option<Vec<String>> {
     let mut words = Vec::new(alloc);
     for word in list_at(case, "words")? {
-        let Some(word) = word.as_str() else {
-            bail!("a word is no text");
-        };
-        words.push(String::from_str(alloc, word)?)?;
+        words
+            .push(String::from_str(alloc, word.as_str()?).ok()?)
+            .ok()?;
     }
-    Ok(words)
+    Some(words)
 }
 
 /// The files of a case, some of whose reads fail.
-pub fn mem_files(alloc: Global, case: &Value) -> Result<MemFiles> {
-    Ok(MemFiles {
+pub fn mem_files(alloc: Global, case: &Value) -> Option<MemFiles> {
+    Some(MemFiles {
         entries: files_of(alloc, case)?,
         fail: calls_at(alloc, case, "fail_reads")?,
         calls: 0,
@@ -99,43 +99,36 @@ pub fn mem_files(alloc: Global, case: &Value) -> Result<MemFiles> {
     })
 }
 
-fn files_of(alloc: Global, case: &Value) -> Result<Vec<(String, Vec<u8>)>> {
-    let Some(files) = case.get("files").and_then(Value::as_object) else {
-        bail!("a case has no files");
-    };
+fn files_of(alloc: Global, case: &Value) -> Option<Vec<(String, Vec<u8>)>> {
     let mut entries = Vec::new(alloc);
-    for (name, text) in files {
-        entries.push((name.clone()?, bytes_of(alloc, text)?))?;
+    for (name, text) in case.get("files")?.as_object()? {
+        entries
+            .push((name.clone().ok()?, bytes_of(alloc, text)?))
+            .ok()?;
     }
-    Ok(entries)
+    Some(entries)
 }
 
 // The numbers of the calls that fail, where the case lists any.
-fn calls_at(alloc: Global, case: &Value, key: &str) -> Result<Vec<u32>> {
+fn calls_at(alloc: Global, case: &Value, key: &str) -> Option<Vec<u32>> {
     let mut calls = Vec::new(alloc);
-    let Some(list) = case.get(key).and_then(Value::as_array) else {
-        return Ok(calls);
+    let Some(list) = list_at(case, key) else {
+        return Some(calls);
     };
     for call in list {
-        let Some(call) = call.as_u64() else {
-            bail!("a call has no number");
-        };
-        calls.push(u32::try_from(call)?)?;
+        calls.push(u32::try_from(call.as_u64()?).ok()?).ok()?;
     }
-    Ok(calls)
+    Some(calls)
 }
 
-fn sink_of(alloc: Global, case: &Value) -> Result<MemSink> {
+fn sink_of(alloc: Global, case: &Value) -> Option<MemSink> {
     let room = limit_at(case, "room")?;
     let per_call = limit_at(case, "per_call")?;
-    match MemSink::new(alloc, room, per_call, calls_at(alloc, case, "fail_writes")?) {
-        Ok(sink) => Ok(sink),
-        Err(_) => bail!("out of memory"),
-    }
+    MemSink::new(alloc, room, per_call, calls_at(alloc, case, "fail_writes")?).ok()
 }
 
 // A limit of the sink, where the case has it.
-fn limit_at(case: &Value, key: &str) -> Result<usize> {
+fn limit_at(case: &Value, key: &str) -> Option<usize> {
     let limit = case.get(key).and_then(Value::as_u64).unwrap_or(ROOM);
-    Ok(usize::try_from(limit)?)
+    usize::try_from(limit).ok()
 }

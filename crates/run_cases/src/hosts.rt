@@ -2,14 +2,13 @@
 //!
 //! - `files`: the text of each file by its name, among them the manifest `m.json` of the page
 //! - `swap`: a slot, and the file that a swap brings into it
-ghost use Rattle.std.specs.Prelude.{◌≡◌, ◌<◌, All, length, IfOk};
+ghost use Rattle.std.specs.Prelude.{◌≡◌, ◌<◌, All, length, IfOk, IfSome};
 ghost use Rattle.slot_check.specs.Verdicts.{IsSmall};
 ghost use Rattle.page_check.specs.Fits.{IsFit};
 ghost use Rattle.run_steps.specs.Page.{files_named, slot_names};
 ghost use Rattle.run_cases.specs.Ready.{IsLoading, IsReady};
 
 use crate::commands::mem_files;
-use anyhow::{Result, bail};
 use code_units::{Memory, Text};
 use host_io::MemFiles;
 use keyed_names::Keys;
@@ -42,78 +41,73 @@ pub struct Loading {
 }
 
 /// The host of the page of a case.
-pub fn host_of(alloc: Global, case: &Value) -> Result<Hosted>
-    ensures { IfOk result IsReady }
+pub fn host_of(alloc: Global, case: &Value) -> Option<Hosted>
+    ensures { IfSome result IsReady }
 {
     let swap = list_at(case, "swap")?;
     let to = number_at(swap, 0)?;
-    let Some(file) = swap.get(1).and_then(Value::as_str) else {
-        bail!("a swap has no file");
-    };
+    let file = swap.get(1)?.as_str()?;
     let loading = loading_of(alloc, &mut mem_files(alloc, case)?, to, file)?;
     load_host(alloc, loading, to)
 }
 
 /// The number at a place of a list.
-pub fn number_at(list: &[Value], at: usize) -> Result<u32> {
-    let Some(number) = list.get(at).and_then(Value::as_u64) else {
-        bail!("a number is missing");
-    };
-    Ok(u32::try_from(number)?)
+pub fn number_at(list: &[Value], at: usize) -> Option<u32> {
+    u32::try_from(list.get(at)?.as_u64()?).ok()
 }
 
 // The host of a page, and the swap that is left for it.
-fn load_host(alloc: Global, loading: Loading, to: u32) -> Result<Hosted>
+fn load_host(alloc: Global, loading: Loading, to: u32) -> Option<Hosted>
     requires { IsLoading to loading }
-    ensures { IfOk result IsReady }
+    ensures { IfSome result IsReady }
 {
-    let slots = u32::try_from(loading.spec.slots.len())?;
+    let slots = u32::try_from(loading.spec.slots.len()).ok()?;
     match Host::load(alloc, Keys::of_files(&[]), loading.spec) {
-        Ok(host) => Ok(Hosted {
+        Ok(host) => Some(Hosted {
             host,
             slots,
             given: 0,
             to,
             left: loading.swap,
         }),
-        Err(_) => bail!("a page is not loaded"),
+        Err(Memory) => return None,
     }
 }
 
 // The page of the manifest among these files, and what a swap of a slot brings that has one of them.
-fn loading_of(alloc: Global, files: &mut MemFiles, to: u32, file: &str) -> Result<Loading>
-    ensures { IfOk result (IsLoading to) }
+fn loading_of(alloc: Global, files: &mut MemFiles, to: u32, file: &str) -> Option<Loading>
+    ensures { IfSome result (IsLoading to) }
 {
     read_manifests_fit();
     let Ok(manifest) = manifest_in(alloc, "m.json", files) else {
-        bail!("a case has no manifest");
+        return None;
     };
     let Ok(sources) = files_of(alloc, &manifest, files) else {
-        bail!("a file of a page is missing");
+        return None;
     };
     let swap = source_of(alloc, file, files)?;
     let Ok(names) = slot_names(alloc, &manifest.entries) else {
-        bail!("out of memory");
+        return None;
     };
     if to as usize >= names.len() {
-        bail!("a swap is of no slot");
+        return None;
     }
     match judged(alloc, manifest, &sources, &names, to, &swap) {
-        Ok(loading) => Ok(loading),
-        Err(_) => bail!("out of memory"),
+        Ok(loading) => Some(loading),
+        Err(Memory) => return None,
     }
 }
 
 // A file, alone.
-fn source_of(alloc: Global, file: &str, files: &mut MemFiles) -> Result<Vec<SourceFile>>
-    ensures one { IfOk result (λ sources. length sources.items ≡ 1) }
-    ensures small { IfOk result (λ sources. All IsSmall sources.items) }
+fn source_of(alloc: Global, file: &str, files: &mut MemFiles) -> Option<Vec<SourceFile>>
+    ensures one { IfSome result (λ sources. length sources.items ≡ 1) }
+    ensures small { IfSome result (λ sources. All IsSmall sources.items) }
 {
     let Ok(bytes) = read_file(alloc, file, FILE_LIMIT, files) else {
-        bail!("the file of a swap is missing");
+        return None;
     };
-    let name = String::from_str(alloc, file)?;
-    Ok(vec![in alloc; SourceFile { name, bytes }]?)
+    let name = String::from_str(alloc, file).ok()?;
+    vec![in alloc; SourceFile { name, bytes }].ok()
 }
 
 // The page of a manifest with its files, and what a swap brings.

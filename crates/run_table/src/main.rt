@@ -1,17 +1,19 @@
-//! Writes whether command lines end as is wanted, which the gate compares with the file `stdout`. The
-//! cases stand in the files in data/ (crate `run_cases`). Then whether calls of frames and of tasks give
-//! what is wanted (crate `step_cases`).
+//! Writes what comes of the cases in the files of data/, which the gate compares with the file `stdout`:
+//! whether command lines and calls of hosts end as is wanted (crate `run_cases`), whether calls of frames
+//! and of tasks give what is wanted (crate `step_cases`), and what texts and calls of single parts give
+//! (crate `part_cases`).
 #![tactic(auto)]
 
 mod real_files;
 
-use anyhow::Result;
+use anyhow::{Result, bail};
+use part_cases::{Question, answers, verdicts};
 use real_files::are_real_files_read;
-use run_cases::answers;
 use std::fs;
 use step_cases::{Answer, ends_as_answered, gives_pushed_frame, unwinds_to_the_end};
 
-const FILES: [&str; 13] = [
+// Command lines and calls of hosts.
+const RUNS: [&str; 13] = [
     "words.jsonl",
     "libraries.jsonl",
     "tidied.jsonl",
@@ -27,10 +29,25 @@ const FILES: [&str; 13] = [
     "picks.jsonl",
 ];
 
+// Texts, and calls of single parts.
+const PARTS: [(&str, Question); 8] = [
+    ("tokens.jsonl", Question::Tokens),
+    ("parse.jsonl", Question::Parse),
+    ("markup.jsonl", Question::Markup),
+    ("styles.jsonl", Question::Style),
+    ("queries.jsonl", Question::Query),
+    ("manifests.jsonl", Question::Manifest),
+    ("traces.jsonl", Question::Trace),
+    ("calls.jsonl", Question::Call),
+];
+
 fn main(rt: HostRuntime) -> Result<()> {
-    for file in FILES {
+    for file in RUNS.iter() {
+        let file = *file;
         let cases = fs::read_to_string(&rt, file)?;
-        let answers = answers(rt.alloc(), &cases)?;
+        let Some(answers) = run_cases::answers(rt.alloc(), &cases) else {
+            bail!("{file} has a line that is no case");
+        };
         print!(rt; "## {file}\n{answers}")?;
     }
     let are_read = are_real_files_read(&rt);
@@ -44,5 +61,18 @@ fn main(rt: HostRuntime) -> Result<()> {
     println!(rt; "## a return unwinds no frames: {over}")?;
     println!(rt; "## a call whose native gives undefined ends by it: {resumed}")?;
     println!(rt; "## a call whose native throws 1 ends by that throw: {raised}")?;
+    for part in PARTS.iter() {
+        let (file, question) = *part;
+        let cases = fs::read_to_string(&rt, file)?;
+        let Some(answers) = answers(alloc, question, &cases) else {
+            bail!("{file} has a line that is no case");
+        };
+        print!(rt; "## {file}\n{answers}")?;
+    }
+    let texts = fs::read_to_string(&rt, "judged.jsonl")?;
+    let Some(verdicts) = verdicts(alloc, &texts) else {
+        bail!("judged.jsonl has a line that is no case");
+    };
+    print!(rt; "# certificates\n{verdicts}")?;
     Ok(())
 }
