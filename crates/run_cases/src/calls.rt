@@ -79,7 +79,6 @@ fn is_answered(alloc: Global, hosted: &mut Hosted, call: &[Value]) -> Option<boo
 }
 
 // Whether a pick answers as is wanted.
-#[tactic(auto, using(crate::proofs::Staying::ready_kept))]
 fn is_picked(alloc: Global, hosted: &mut Hosted, call: &[Value]) -> Option<bool>
     requires { IsReady hosted.old }
     ensures { OnSome result (IsReady hosted.new) }
@@ -90,7 +89,7 @@ fn is_picked(alloc: Global, hosted: &mut Hosted, call: &[Value]) -> Option<bool>
         return None;
     }
     match hosted.host.pick(alloc, slot, slice) {
-        Ok(picked) => is_answer(alloc, picked, call.get(3)),
+        Ok(picked) => Some(is_answer(alloc, picked, call.get(3))?),
         Err(_) => return None,
     }
 }
@@ -110,7 +109,6 @@ fn words_of(alloc: Global, picked: Picked) -> Option<String> {
 }
 
 // The swap of the case is given.
-#[tactic(auto, using(crate::proofs::Staying::left_few, crate::proofs::Staying::left_fits))]
 fn give_swap(alloc: Global, hosted: &mut Hosted) -> Option<bool>
     requires { IsReady hosted.old }
     ensures { OnSome result (IsReady hosted.new) }
@@ -131,7 +129,6 @@ fn give_swap(alloc: Global, hosted: &mut Hosted) -> Option<bool>
 }
 
 // An advance is given.
-#[tactic(auto, using(crate::proofs::Staying::ready_gave))]
 fn give(hosted: &mut Hosted, call: &[Value]) -> Option<bool>
     requires { IsReady hosted.old }
     ensures { OnSome result (IsReady hosted.new) }

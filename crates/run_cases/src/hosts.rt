@@ -111,7 +111,6 @@ fn source_of(alloc: Global, file: &str, files: &mut MemFiles) -> Option<Vec<Sour
 }
 
 // The page of a manifest with its files, and what a swap brings.
-#[tactic(auto, using(crate::proofs::Staying::loading_brought))]
 fn judged(
     alloc: Global,
     manifest: Manifest,
