@@ -3,7 +3,6 @@ use Rattle.std.proofs.Common.{◌≡◌, ℕ, List, Bool, ap, refl, true, false,
 use Rattle.js_tree.specs.Forest.{Forest}
 use Rattle.permitted_table.specs.declared.native.HostEntry.TheVariants as entry
 use Rattle.store_cells.specs.declared.value.Value.TheVariants as value
-use Rattle.store_cells.specs.declared.value.Number.TheVariants as number
 use Rattle.store_cells.specs.Cells.{PlainCell, own_count}
 use Rattle.object_store.specs.Owned as store
 use Rattle.object_store.specs.Owned.{visible_at}

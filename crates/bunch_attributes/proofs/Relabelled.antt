@@ -20,6 +20,7 @@ use Rattle.bunch_attributes.specs.declared.relabelling.Label.{Label}
 use Rattle.bunch_attributes.specs.declared.relabelling.Label.TheVariants as label
 use Rattle.bunch_attributes.specs.Labels.{meant}
 use Rattle.bunch_attributes.specs.Tests.{passes}
+use Rattle.native_image.specs.Handed.{state}
 use Rattle.bunch_attributes.proofs.Tags.{passes_element}
 
 no_true : false ≡ true → ⊥

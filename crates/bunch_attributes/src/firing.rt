@@ -1,59 +1,44 @@
 //! Dispatches to the nodes of a Bunch.
-ghost use Rattle.std.specs.Prelude.{[], ◌∷◌, Bool, Option, IfOk, map};
+ghost use Rattle.std.specs.Prelude.{[], ◌∷◌};
 ghost use Rattle.widget_meaning.specs.BunchWrites as means;
 ghost use Rattle.permitted_table.specs.declared.native.WriteNative.TheVariants as names;
-ghost use Rattle.js_image.specs.Held.{IsHeld};
-ghost use Rattle.js_image.specs.Image.{seen};
-ghost use Rattle.page_image.specs.Image.{number};
-ghost use Rattle.native_image.specs.Image.{beside};
-ghost use Rattle.native_image.specs.Refines.{RefinesAt};
-ghost use Rattle.native_image.specs.Sound.{AreNodes, IsSound};
+ghost use Rattle.native_image.specs.Handed.{IsBunchOf, IsSoundIn, Reads, numbers, sees};
 
 use code_units::Memory;
-use event_loop::Loop;
 use js_image::Fault;
 use js_values::{Meter, NativeOut, Plan};
-use native_common::{WidgetId, is_object, read_text, take};
-use object_store::{CellId, Store, Value};
-use page_tree::{NodeId, Page};
+use native_common::{is_object, read_text, take};
+use native_image::{Receiver, Shared, Widget};
+use object_store::Value;
 use plain_tree::is_event_type;
-use std::alloc::Global;
 
 /// `fire(t)`: a dispatch to each node in order, and then the Bunch is given back.
 pub fn fire(
-    alloc: Global,
-    list: &[NodeId],
+    bunch: &Receiver,
     kind: &Value,
-    this: CellId,
-    store: &Store,
+    shared: &Shared,
     meter: &mut Meter,
-    w: WidgetId,
-    page: &Page,
-    around: &Loop,
+    widget: &Widget,
 ) -> Result<NativeOut, Memory>
-    requires nodes { AreNodes page.now w.index list.now }
-    requires held { IsHeld w.index store.now.cells this }
-    requires sound { IsSound w.index store.now page.now around.now }
-    ensures { (b : Option Bool) → IfOk result (λ o.
-        RefinesAt w.index (beside store.now page.now around.now b)
-        (beside store.now page.now around.now b) meter.old meter.new
-        (λ d s. means.write_method names.Fire (map (number page.now w.index) list.now)
-        (seen w.index store.now.cells (Value.Ref this))
-        (seen w.index store.now.cells kind.now ∷ []) d s) o) }
+    requires bunch { IsBunchOf shared.now widget.now bunch.now.cell bunch.now.nodes.now }
+    requires sound { IsSoundIn shared.now widget.now }
+    ensures { Reads shared.now shared.now widget.now meter.old meter.new (λ d s. means.write_method names.Fire
+        (numbers shared.now widget.now bunch.now.nodes.now) (sees shared.now widget.now (Value.Ref bunch.now.cell))
+        (sees shared.now widget.now kind.now ∷ []) d s) result }
 {
     if is_object(kind) {
         return Ok(NativeOut::Throw(Fault::E4));
     }
-    let kind = read_text(alloc, kind)?;
+    let kind = read_text(shared.alloc, kind)?;
     if !is_event_type(&kind) {
         return Ok(NativeOut::Throw(Fault::E4));
     }
-    let nodes = Vec::from_slice(alloc, list)?;
-    match take(meter, list.len()) {
+    let nodes = Vec::from_slice(shared.alloc, bunch.nodes)?;
+    match take(meter, bunch.nodes.len()) {
         Ok(()) => Ok(NativeOut::Call(Plan::Fire {
             kind,
             nodes,
-            last: Value::Ref(this),
+            last: Value::Ref(bunch.cell),
         })),
         Err(_) => Ok(NativeOut::OutOfFuel),
     }

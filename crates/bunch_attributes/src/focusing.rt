@@ -1,53 +1,43 @@
 //! The focus.
-ghost use Rattle.std.specs.Prelude.{◌≡◌, ℕ, [], Bool, Option, true, map};
+ghost use Rattle.std.specs.Prelude.{◌≡◌, ℕ, [], true, map};
 ghost use Rattle.query_grammar.specs.Finds.{has_number};
 ghost use Rattle.store_cells.specs.Cells.{Cells};
 ghost use Rattle.widget_meaning.specs.BunchWrites as means;
 ghost use Rattle.permitted_table.specs.declared.native.WriteNative.TheVariants as names;
 ghost use Rattle.widget_meaning.specs.OwnState.{State};
 ghost use Rattle.event_image.specs.Image.{Shows};
-ghost use Rattle.js_image.specs.Held.{IsHeld};
-ghost use Rattle.js_image.specs.Image.{seen};
 ghost use Rattle.page_image.specs.Image.{number, owns};
-ghost use Rattle.native_image.specs.Image.{beside};
-ghost use Rattle.native_image.specs.Refines.{RefinesAt};
-ghost use Rattle.native_image.specs.Sound.{AreNodes, HoldsOwn, IsSound, KeepsAll};
+ghost use Rattle.native_image.specs.Handed.{IsBunchOf, IsSoundIn, Runs};
+ghost use Rattle.native_image.specs.Sound.{HoldsOwn};
 
 use event_loop::Loop;
 use js_image::Fault;
 use js_values::{Meter, NativeOut};
 use native_common::WidgetId;
-use native_image::{Cost, begin};
-use object_store::{CellId, Store, Value};
+use native_image::{Cost, Receiver, Shared, Widget, begin};
+use object_store::Value;
 use page_tree::{NodeId, Page};
 
 /// `focus()`: of one node.
 pub fn focus(
-    list: &[NodeId],
-    this: CellId,
-    store: &mut Store,
+    bunch: &Receiver,
+    shared: &mut Shared,
     meter: &mut Meter,
-    w: WidgetId,
-    page: &Page,
-    around: &mut Loop,
+    widget: &mut Widget,
 ) -> NativeOut
-    requires nodes { AreNodes page.now w.index list.now }
-    requires held { IsHeld w.index store.old.cells this }
-    requires sound { IsSound w.index store.old page.now around.old }
-    ensures native { (b : Option Bool)
-        → RefinesAt w.index (beside store.old page.now around.old b)
-        (beside store.new page.now around.new b) meter.old meter.new
-        (λ d s. means.write_method names.Focus (map (number page.now w.index) list.now)
-        (seen w.index store.old.cells (Value.Ref this)) [] d s) result }
-    ensures kept { KeepsAll w.index store.old store.new page.now page.now around.new }
+    requires bunch { IsBunchOf shared.old widget.old bunch.now.cell bunch.now.nodes.now }
+    requires sound { IsSoundIn shared.old widget.old }
+    ensures { Runs shared.old shared.new widget.old widget.new meter.old meter.new names.Focus
+        bunch.now.cell bunch.now.nodes.now [] (Ok result) }
 {
+    let list = bunch.nodes;
     if list.len() != 1 {
         return NativeOut::Throw(Fault::E4);
     }
-    match begin(store, meter, w, 1, Cost::Nothing) {
+    match begin(&mut shared.store, meter, widget.id, 1, Cost::Nothing) {
         Ok(()) => {
-            around.set_focus(Some(list[0]));
-            NativeOut::Value(Value::Ref(this))
+            widget.around.set_focus(Some(list[0]));
+            NativeOut::Value(Value::Ref(bunch.cell))
         }
         Err(out) => out,
     }
@@ -82,28 +72,26 @@ fn leave(list: &[NodeId], w: WidgetId, page: &Page, around: &mut Loop)
 
 /// `blur()`: of any nodes.
 pub fn blur(
-    list: &[NodeId],
-    this: CellId,
-    store: &mut Store,
+    bunch: &Receiver,
+    shared: &mut Shared,
     meter: &mut Meter,
-    w: WidgetId,
-    page: &Page,
-    around: &mut Loop,
+    widget: &mut Widget,
 ) -> NativeOut
-    requires nodes { AreNodes page.now w.index list.now }
-    requires held { IsHeld w.index store.old.cells this }
-    requires sound { IsSound w.index store.old page.now around.old }
-    ensures native { (b : Option Bool)
-        → RefinesAt w.index (beside store.old page.now around.old b)
-        (beside store.new page.now around.new b) meter.old meter.new
-        (λ d s. means.write_method names.Blur (map (number page.now w.index) list.now)
-        (seen w.index store.old.cells (Value.Ref this)) [] d s) result }
-    ensures kept { KeepsAll w.index store.old store.new page.now page.now around.new }
+    requires bunch { IsBunchOf shared.old widget.old bunch.now.cell bunch.now.nodes.now }
+    requires sound { IsSoundIn shared.old widget.old }
+    ensures { Runs shared.old shared.new widget.old widget.new meter.old meter.new names.Blur
+        bunch.now.cell bunch.now.nodes.now [] (Ok result) }
 {
-    match begin(store, meter, w, list.len(), Cost::Nothing) {
+    match begin(
+        &mut shared.store,
+        meter,
+        widget.id,
+        bunch.nodes.len(),
+        Cost::Nothing,
+    ) {
         Ok(()) => {
-            leave(list, w, page, around);
-            NativeOut::Value(Value::Ref(this))
+            leave(bunch.nodes, widget.id, &shared.page, &mut widget.around);
+            NativeOut::Value(Value::Ref(bunch.cell))
         }
         Err(out) => out,
     }

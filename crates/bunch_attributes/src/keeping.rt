@@ -1,5 +1,5 @@
 //! Changes of what is kept with nodes.
-ghost use Rattle.std.specs.Prelude.{◌≡◌, ℕ, Bool, Option, true, IfOk, OnErr, OnOk, map};
+ghost use Rattle.std.specs.Prelude.{◌≡◌, ℕ, true, OnErr, OnOk, map};
 ghost use Rattle.std.specs.List.{fold};
 ghost use Rattle.query_grammar.specs.Finds.{has_number};
 ghost use Rattle.store_cells.specs.Cells.{Cells, own_count};
@@ -7,21 +7,18 @@ ghost use Rattle.widget_meaning.specs.BunchWrites.{change_kept};
 ghost use Rattle.widget_meaning.specs.OwnState.{State};
 ghost use Rattle.event_loop.specs.Around.{ChangedAt, SameKept, SameTimes};
 ghost use Rattle.event_image.specs.Image.{Shows};
-ghost use Rattle.js_image.specs.Held.{IsHeld};
-ghost use Rattle.js_image.specs.Image.{seen};
 ghost use Rattle.page_image.specs.Image.{number, owns};
+ghost use Rattle.native_image.specs.Handed.{IsBunchOf, IsSoundIn, Writes, numbers, sees};
 ghost use Rattle.native_image.specs.Charges.{IsPrice, Price};
-ghost use Rattle.native_image.specs.Image.{beside};
-ghost use Rattle.native_image.specs.Refines.{RefinesAt};
-ghost use Rattle.native_image.specs.Sound.{AreNodes, HoldsOwn, IsSound, KeepsAll};
+ghost use Rattle.native_image.specs.Sound.{HoldsOwn};
 ghost use Rattle.bunch_attributes.specs.Kept.{IsFineChange, keep_plan, meant, plain_change};
 
 use code_units::{Memory, Text};
 use event_loop::Loop;
 use js_values::{Meter, NativeOut};
 use native_common::WidgetId;
-use native_image::{Cost, begin};
-use object_store::{CellId, Store, Value};
+use native_image::{Cost, Receiver, Shared, Widget, begin};
+use object_store::{CellId, Value};
 use page_tree::{NodeId, Page};
 use std::alloc::Global;
 
@@ -87,33 +84,33 @@ fn change_all(
 
 /// Changes what is kept with all nodes of a Bunch, which is given back.
 pub(crate) fn keep(
-    alloc: Global,
-    list: &[NodeId],
+    bunch: &Receiver,
     change: &Change,
     cost: Cost,
-    this: CellId,
-    store: &mut Store,
+    shared: &mut Shared,
     meter: &mut Meter,
-    w: WidgetId,
-    page: &Page,
-    around: &mut Loop,
+    widget: &mut Widget,
 ) -> Result<NativeOut, Memory>
-    requires nodes { AreNodes page.now w.index list.now }
-    requires held { IsHeld w.index store.old.cells this }
-    requires change { IsFineChange w.index store.old.cells change.now }
-    requires sound { IsSound w.index store.old page.now around.old }
-    ensures native { (b : Option Bool) (c : Price) → IsPrice cost c
-        → IfOk result (λ o. RefinesAt w.index (beside store.old page.now around.old b)
-        (beside store.new page.now around.new b) meter.old meter.new
-        (λ d s. keep_plan (meant (own_count w.index store.old.cells) change.now) c
-        (map (number page.now w.index) list.now)
-        (seen w.index store.old.cells (Value.Ref this)) s) o) }
-    ensures kept { KeepsAll w.index store.old store.new page.now page.now around.new }
+    requires bunch { IsBunchOf shared.old widget.old bunch.now.cell bunch.now.nodes.now }
+    requires change { IsFineChange widget.old.id.index shared.old.store.cells change.now }
+    requires sound { IsSoundIn shared.old widget.old }
+    ensures { (c : Price) → IsPrice cost c
+        → Writes shared.old shared.new widget.old widget.new meter.old meter.new
+        (λ d s. keep_plan (meant (own_count widget.old.id.index shared.old.store.cells) change.now) c
+        (numbers shared.old widget.old bunch.now.nodes.now)
+        (sees shared.old widget.old (Value.Ref bunch.now.cell)) s) result }
 {
-    match begin(store, meter, w, list.len(), cost) {
+    match begin(&mut shared.store, meter, widget.id, bunch.nodes.len(), cost) {
         Ok(()) => {
-            change_all(alloc, list, change, w, page, around)?;
-            Ok(NativeOut::Value(Value::Ref(this)))
+            change_all(
+                shared.alloc,
+                bunch.nodes,
+                change,
+                widget.id,
+                &shared.page,
+                &mut widget.around,
+            )?;
+            Ok(NativeOut::Value(Value::Ref(bunch.cell)))
         }
         Err(out) => Ok(out),
     }

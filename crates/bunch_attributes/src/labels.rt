@@ -1,30 +1,23 @@
 //! Methods that set attributes and styles.
-ghost use Rattle.std.specs.Prelude.{◌≡◌, ◌&&◌, ◌||◌, ◌*◌, [], ◌∷◌, Bool, Option, None, Some, IfOk, if◌then◌else◌, length, map, nat_eq};
+ghost use Rattle.std.specs.Prelude.{◌≡◌, ◌&&◌, ◌||◌, ◌*◌, [], ◌∷◌, None, Some, IfOk, if◌then◌else◌, length, nat_eq};
 ghost use Rattle.plain_tree.specs.Trees as plain;
 ghost use Rattle.style_text.specs.Styles.{is_listed, is_value};
 ghost use Rattle.tree_ops.specs.Labels.{with_attribute};
 ghost use Rattle.widget_meaning.specs.BunchWrites as means;
 ghost use Rattle.permitted_table.specs.declared.native.WriteNative.TheVariants as names;
-ghost use Rattle.event_loop.specs.declared.around.Loop.{Loop};
-ghost use Rattle.js_image.specs.Held.{IsHeld};
-ghost use Rattle.js_image.specs.Image.{seen};
-ghost use Rattle.page_image.specs.Image.{HasRoot, number};
 ghost use Rattle.native_common.specs.Numbers.{counted};
-ghost use Rattle.native_image.specs.Image.{beside};
-ghost use Rattle.native_image.specs.Refines.{RefinesAt};
-ghost use Rattle.native_image.specs.Sound.{AreNodes, IsSound, KeepsAll};
 ghost use Rattle.bunch_attributes.specs.Labels as labels;
-ghost use Rattle.bunch_attributes.specs.Tests as tests;
+ghost use Rattle.native_image.specs.Handed.{IsBunchOf, IsSoundIn, Runs, Writes, numbers, sees};
 
 use crate::judging::Test;
 use crate::relabelling::{Label, Relabelling, relabel};
 use code_units::{Memory, Text};
 use js_image::{Fault, word};
 use js_values::{Meter, NativeOut, is_true};
-use native_common::{WidgetId, either_object, is_object, read_text};
-use native_image::Cost;
-use object_store::{CellId, Store, Value};
-use page_tree::{NodeId, Page};
+use native_common::{either_object, is_object, read_text};
+use native_image::{Cost, Receiver, Shared, Widget};
+use object_store::Value;
+use page_tree::NodeId;
 use plain_tree::plain_words;
 use std::alloc::Global;
 use style_text::{property_listed, value_spelled};
@@ -38,96 +31,70 @@ fn units_for(list: &[NodeId], text: &Text) -> usize
 
 // Sets an attribute of all nodes.
 fn set_attribute(
-    alloc: Global,
-    list: &[NodeId],
+    bunch: &Receiver,
     name: &[u8],
     text: Text,
-    this: CellId,
-    store: &mut Store,
+    shared: &mut Shared,
     meter: &mut Meter,
-    w: WidgetId,
-    page: &mut Page,
+    widget: &Widget,
 ) -> Result<NativeOut, Memory>
-    requires nodes { AreNodes page.old w.index list.now }
-    requires home { HasRoot page.old w.index }
-    requires held { IsHeld w.index store.old.cells this }
-    ensures native { (l : Loop) (b : Option Bool) → IsSound w.index store.old page.old l
-        → IfOk result (λ o. RefinesAt w.index (beside store.old page.old l b)
-        (beside store.new page.new l b) meter.old meter.new
-        (λ d s. means.set_attribute (map (number page.old w.index) list.now) name.now text
-        (seen w.index store.old.cells (Value.Ref this)) s) o) }
-    ensures kept { (l : Loop) → IsSound w.index store.old page.old l
-        → KeepsAll w.index store.old store.new page.old page.new l }
+    requires bunch { IsBunchOf shared.old widget.now bunch.now.cell bunch.now.nodes.now }
+    requires sound { IsSoundIn shared.old widget.now }
+    ensures { Writes shared.old shared.new widget.now widget.now meter.old meter.new
+        (λ d s. means.set_attribute (numbers shared.old widget.now bunch.now.nodes.now) name.now text
+        (sees shared.old widget.now (Value.Ref bunch.now.cell)) s) result }
 {
-    let cost = Cost::Units(units_for(list, &text));
-    let name = word(alloc, name)?;
+    let cost = Cost::Units(units_for(bunch.nodes, &text));
+    let name = word(shared.alloc, name)?;
     let how = Relabelling {
         test: Test::Element,
         change: Label::Set { name, value: text },
         cost,
     };
-    relabel(alloc, list, &how, this, store, meter, w, page)
+    relabel(bunch, &how, shared, meter, widget)
 }
 
 /// `klass(v)`.
 pub fn set_class(
-    alloc: Global,
-    list: &[NodeId],
+    bunch: &Receiver,
     value: &Value,
-    this: CellId,
-    store: &mut Store,
+    shared: &mut Shared,
     meter: &mut Meter,
-    w: WidgetId,
-    page: &mut Page,
+    widget: &Widget,
 ) -> Result<NativeOut, Memory>
-    requires nodes { AreNodes page.old w.index list.now }
-    requires home { HasRoot page.old w.index }
-    requires held { IsHeld w.index store.old.cells this }
-    ensures native { (l : Loop) (b : Option Bool) → IsSound w.index store.old page.old l
-        → IfOk result (λ o. RefinesAt w.index (beside store.old page.old l b)
-        (beside store.new page.new l b) meter.old meter.new
-        (λ d s. means.write_method names.SetClass (map (number page.old w.index) list.now)
-        (seen w.index store.old.cells (Value.Ref this)) (seen w.index store.old.cells value.now ∷ []) d s) o) }
-    ensures kept { (l : Loop) → IsSound w.index store.old page.old l
-        → KeepsAll w.index store.old store.new page.old page.new l }
+    requires bunch { IsBunchOf shared.old widget.now bunch.now.cell bunch.now.nodes.now }
+    requires sound { IsSoundIn shared.old widget.now }
+    ensures { Runs shared.old shared.new widget.now widget.now meter.old meter.new names.SetClass
+        bunch.now.cell bunch.now.nodes.now (value.now ∷ []) result }
 {
     if is_object(value) {
         return Ok(NativeOut::Throw(Fault::E4));
     }
-    let text = read_text(alloc, value)?;
+    let text = read_text(shared.alloc, value)?;
     if !plain_words(&text) {
         return Ok(NativeOut::Throw(Fault::E4));
     }
-    set_attribute(alloc, list, b"class", text, this, store, meter, w, page)
+    set_attribute(bunch, b"class", text, shared, meter, widget)
 }
 
 /// `title(v)`.
 pub fn set_title(
-    alloc: Global,
-    list: &[NodeId],
+    bunch: &Receiver,
     value: &Value,
-    this: CellId,
-    store: &mut Store,
+    shared: &mut Shared,
     meter: &mut Meter,
-    w: WidgetId,
-    page: &mut Page,
+    widget: &Widget,
 ) -> Result<NativeOut, Memory>
-    requires nodes { AreNodes page.old w.index list.now }
-    requires home { HasRoot page.old w.index }
-    requires held { IsHeld w.index store.old.cells this }
-    ensures native { (l : Loop) (b : Option Bool) → IsSound w.index store.old page.old l
-        → IfOk result (λ o. RefinesAt w.index (beside store.old page.old l b)
-        (beside store.new page.new l b) meter.old meter.new
-        (λ d s. means.write_method names.SetTitle (map (number page.old w.index) list.now)
-        (seen w.index store.old.cells (Value.Ref this)) (seen w.index store.old.cells value.now ∷ []) d s) o) }
-    ensures kept { (l : Loop) → IsSound w.index store.old page.old l
-        → KeepsAll w.index store.old store.new page.old page.new l }
+    requires bunch { IsBunchOf shared.old widget.now bunch.now.cell bunch.now.nodes.now }
+    requires sound { IsSoundIn shared.old widget.now }
+    ensures { Runs shared.old shared.new widget.now widget.now meter.old meter.new names.SetTitle
+        bunch.now.cell bunch.now.nodes.now (value.now ∷ []) result }
 {
     if is_object(value) {
         return Ok(NativeOut::Throw(Fault::E4));
     }
-    let text = read_text(alloc, value)?;
-    set_attribute(alloc, list, b"title", text, this, store, meter, w, page)
+    let text = read_text(shared.alloc, value)?;
+    set_attribute(bunch, b"title", text, shared, meter, widget)
 }
 
 // An attribute whose value is its name is set or taken out.
@@ -146,108 +113,46 @@ fn flag(alloc: Global, name: &[u8], is_set: bool) -> Result<Label, Memory>
     Ok(Label::Unset { name: word_name })
 }
 
-// Sets or takes out an attribute of all nodes, whose value is its name.
-fn set_flag(
-    alloc: Global,
-    list: &[NodeId],
-    test: Test,
-    name: &[u8],
-    is_set: bool,
-    this: CellId,
-    store: &mut Store,
-    meter: &mut Meter,
-    w: WidgetId,
-    page: &mut Page,
-) -> Result<NativeOut, Memory>
-    requires nodes { AreNodes page.old w.index list.now }
-    requires home { HasRoot page.old w.index }
-    requires held { IsHeld w.index store.old.cells this }
-    ensures native { (l : Loop) (b : Option Bool) → IsSound w.index store.old page.old l
-        → IfOk result (λ o. RefinesAt w.index (beside store.old page.old l b)
-        (beside store.new page.new l b) meter.old meter.new
-        (λ d s. means.set_flag (tests.passes test s) (map (number page.old w.index) list.now) name.now is_set
-        (seen w.index store.old.cells (Value.Ref this)) s) o) }
-    ensures kept { (l : Loop) → IsSound w.index store.old page.old l
-        → KeepsAll w.index store.old store.new page.old page.new l }
-{
-    let how = Relabelling {
-        test,
-        change: flag(alloc, name, is_set)?,
-        cost: Cost::Nothing,
-    };
-    relabel(alloc, list, &how, this, store, meter, w, page)
-}
-
 /// `check(v)`.
 pub fn set_check(
-    alloc: Global,
-    list: &[NodeId],
+    bunch: &Receiver,
     value: &Value,
-    this: CellId,
-    store: &mut Store,
+    shared: &mut Shared,
     meter: &mut Meter,
-    w: WidgetId,
-    page: &mut Page,
+    widget: &Widget,
 ) -> Result<NativeOut, Memory>
-    requires nodes { AreNodes page.old w.index list.now }
-    requires home { HasRoot page.old w.index }
-    requires held { IsHeld w.index store.old.cells this }
-    ensures native { (l : Loop) (b : Option Bool) → IsSound w.index store.old page.old l
-        → IfOk result (λ o. RefinesAt w.index (beside store.old page.old l b)
-        (beside store.new page.new l b) meter.old meter.new
-        (λ d s. means.write_method names.SetCheck (map (number page.old w.index) list.now)
-        (seen w.index store.old.cells (Value.Ref this)) (seen w.index store.old.cells value.now ∷ []) d s) o) }
-    ensures kept { (l : Loop) → IsSound w.index store.old page.old l
-        → KeepsAll w.index store.old store.new page.old page.new l }
+    requires bunch { IsBunchOf shared.old widget.now bunch.now.cell bunch.now.nodes.now }
+    requires sound { IsSoundIn shared.old widget.now }
+    ensures { Runs shared.old shared.new widget.now widget.now meter.old meter.new names.SetCheck
+        bunch.now.cell bunch.now.nodes.now (value.now ∷ []) result }
 {
-    set_flag(
-        alloc,
-        list,
-        Test::Input,
-        b"checked",
-        is_true(value),
-        this,
-        store,
-        meter,
-        w,
-        page,
-    )
+    let how = Relabelling {
+        test: Test::Input,
+        change: flag(shared.alloc, b"checked", is_true(value))?,
+        cost: Cost::Nothing,
+    };
+    relabel(bunch, &how, shared, meter, widget)
 }
 
 /// `enable(v)`.
 pub fn set_enabled(
-    alloc: Global,
-    list: &[NodeId],
+    bunch: &Receiver,
     value: &Value,
-    this: CellId,
-    store: &mut Store,
+    shared: &mut Shared,
     meter: &mut Meter,
-    w: WidgetId,
-    page: &mut Page,
+    widget: &Widget,
 ) -> Result<NativeOut, Memory>
-    requires nodes { AreNodes page.old w.index list.now }
-    requires home { HasRoot page.old w.index }
-    requires held { IsHeld w.index store.old.cells this }
-    ensures native { (l : Loop) (b : Option Bool) → IsSound w.index store.old page.old l
-        → IfOk result (λ o. RefinesAt w.index (beside store.old page.old l b)
-        (beside store.new page.new l b) meter.old meter.new
-        (λ d s. means.write_method names.SetEnabled (map (number page.old w.index) list.now)
-        (seen w.index store.old.cells (Value.Ref this)) (seen w.index store.old.cells value.now ∷ []) d s) o) }
-    ensures kept { (l : Loop) → IsSound w.index store.old page.old l
-        → KeepsAll w.index store.old store.new page.old page.new l }
+    requires bunch { IsBunchOf shared.old widget.now bunch.now.cell bunch.now.nodes.now }
+    requires sound { IsSoundIn shared.old widget.now }
+    ensures { Runs shared.old shared.new widget.now widget.now meter.old meter.new names.SetEnabled
+        bunch.now.cell bunch.now.nodes.now (value.now ∷ []) result }
 {
-    set_flag(
-        alloc,
-        list,
-        Test::Field,
-        b"disabled",
-        !is_true(value),
-        this,
-        store,
-        meter,
-        w,
-        page,
-    )
+    let how = Relabelling {
+        test: Test::Field,
+        change: flag(shared.alloc, b"disabled", !is_true(value))?,
+        cost: Cost::Nothing,
+    };
+    relabel(bunch, &how, shared, meter, widget)
 }
 
 // Whether a value may be given to a property of a style: the property is listed, and the value is
@@ -260,41 +165,31 @@ fn may_style(property: &Text, value: &Text) -> bool
 
 /// `style(p, v)`.
 pub fn set_style(
-    alloc: Global,
-    list: &[NodeId],
+    bunch: &Receiver,
     property: &Value,
     value: &Value,
-    this: CellId,
-    store: &mut Store,
+    shared: &mut Shared,
     meter: &mut Meter,
-    w: WidgetId,
-    page: &mut Page,
+    widget: &Widget,
 ) -> Result<NativeOut, Memory>
-    requires nodes { AreNodes page.old w.index list.now }
-    requires home { HasRoot page.old w.index }
-    requires held { IsHeld w.index store.old.cells this }
-    ensures native { (l : Loop) (b : Option Bool) → IsSound w.index store.old page.old l
-        → IfOk result (λ o. RefinesAt w.index (beside store.old page.old l b)
-        (beside store.new page.new l b) meter.old meter.new
-        (λ d s. means.write_method names.SetStyle (map (number page.old w.index) list.now)
-        (seen w.index store.old.cells (Value.Ref this))
-        (seen w.index store.old.cells property.now ∷ seen w.index store.old.cells value.now ∷ []) d s) o) }
-    ensures kept { (l : Loop) → IsSound w.index store.old page.old l
-        → KeepsAll w.index store.old store.new page.old page.new l }
+    requires bunch { IsBunchOf shared.old widget.now bunch.now.cell bunch.now.nodes.now }
+    requires sound { IsSoundIn shared.old widget.now }
+    ensures { Runs shared.old shared.new widget.now widget.now meter.old meter.new names.SetStyle
+        bunch.now.cell bunch.now.nodes.now (property.now ∷ value.now ∷ []) result }
 {
     if either_object(property, value) {
         return Ok(NativeOut::Throw(Fault::E4));
     }
-    let property = read_text(alloc, property)?;
-    let value = read_text(alloc, value)?;
+    let property = read_text(shared.alloc, property)?;
+    let value = read_text(shared.alloc, value)?;
     if !may_style(&property, &value) {
         return Ok(NativeOut::Throw(Fault::E4));
     }
-    let cost = Cost::Units(units_for(list, &value));
+    let cost = Cost::Units(units_for(bunch.nodes, &value));
     let how = Relabelling {
         test: Test::Element,
         change: Label::Style { property, value },
         cost,
     };
-    relabel(alloc, list, &how, this, store, meter, w, page)
+    relabel(bunch, &how, shared, meter, widget)
 }

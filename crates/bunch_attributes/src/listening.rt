@@ -1,67 +1,47 @@
 //! Handlers, marks and protection.
-ghost use Rattle.std.specs.Prelude.{◌≡◌, [], ◌∷◌, Bool, Option, IfOk, map};
-ghost use Rattle.widget_meaning.specs.BunchWrites as means;
+ghost use Rattle.std.specs.Prelude.{◌≡◌, [], ◌∷◌};
 ghost use Rattle.permitted_table.specs.declared.native.WriteNative.TheVariants as names;
-ghost use Rattle.js_image.specs.Held.{IsFine, IsHeld};
-ghost use Rattle.js_image.specs.Image.{seen};
-ghost use Rattle.page_image.specs.Image.{number};
-ghost use Rattle.native_image.specs.Image.{beside};
-ghost use Rattle.native_image.specs.Refines.{RefinesAt};
-ghost use Rattle.native_image.specs.Sound.{AreNodes, IsSound, KeepsAll};
+ghost use Rattle.js_image.specs.Held.{IsFine};
 ghost use Rattle.bunch_attributes.specs.Values.{is_undefined};
+ghost use Rattle.native_image.specs.Handed.{IsBunchOf, IsSoundIn, Runs};
 
 use crate::functions::function_of;
 use crate::keeping::{Change, keep};
 use code_units::Memory;
-use event_loop::Loop;
 use js_image::Fault;
 use js_values::{Meter, NativeOut};
-use native_common::{WidgetId, is_object, read_text};
-use native_image::Cost;
-use object_store::{CellId, Store, Value};
-use page_tree::{NodeId, Page};
+use native_common::{is_object, read_text};
+use native_image::{Cost, Receiver, Shared, Widget};
+use object_store::Value;
 use plain_tree::is_event_type;
-use std::alloc::Global;
 
 /// `on(t, f)`.
 pub fn listen(
-    alloc: Global,
-    list: &[NodeId],
+    bunch: &Receiver,
     kind: &Value,
     func: &Value,
-    this: CellId,
-    store: &mut Store,
+    shared: &mut Shared,
     meter: &mut Meter,
-    w: WidgetId,
-    page: &Page,
-    around: &mut Loop,
+    widget: &mut Widget,
 ) -> Result<NativeOut, Memory>
-    requires nodes { AreNodes page.now w.index list.now }
-    requires held { IsHeld w.index store.old.cells this }
-    requires func { IsFine w.index store.old.cells func.now }
-    requires sound { IsSound w.index store.old page.now around.old }
-    ensures native { (b : Option Bool) → IfOk result (λ o.
-        RefinesAt w.index (beside store.old page.now around.old b)
-        (beside store.new page.now around.new b) meter.old meter.new
-        (λ d s. means.write_method names.On (map (number page.now w.index) list.now)
-        (seen w.index store.old.cells (Value.Ref this))
-        (seen w.index store.old.cells kind.now ∷ seen w.index store.old.cells func.now ∷ []) d s) o) }
-    ensures kept { KeepsAll w.index store.old store.new page.now page.now around.new }
+    requires bunch { IsBunchOf shared.old widget.old bunch.now.cell bunch.now.nodes.now }
+    requires func { IsFine widget.old.id.index shared.old.store.cells func.now }
+    requires sound { IsSoundIn shared.old widget.old }
+    ensures { Runs shared.old shared.new widget.old widget.new meter.old meter.new names.On
+        bunch.now.cell bunch.now.nodes.now (kind.now ∷ func.now ∷ []) result }
 {
     if is_object(kind) {
         return Ok(NativeOut::Throw(Fault::E4));
     }
-    let kind = read_text(alloc, kind)?;
+    let kind = read_text(shared.alloc, kind)?;
     if !is_event_type(&kind) {
         return Ok(NativeOut::Throw(Fault::E4));
     }
-    match function_of(store, func) {
+    match function_of(&shared.store, func) {
         Some(func) => {
             let change = Change::Listen { kind, func };
-            let cost = Cost::Slots(list.len() as u32);
-            keep(
-                alloc, list, &change, cost, this, store, meter, w, page, around,
-            )
+            let cost = Cost::Slots(bunch.nodes.len() as u32);
+            keep(bunch, &change, cost, shared, meter, widget)
         }
         None => Ok(NativeOut::Throw(Fault::E4)),
     }
@@ -76,135 +56,71 @@ pub fn is_undefined(v: &Value) -> bool
 
 /// `off(t)`, or `off()` of all types.
 pub fn hush(
-    alloc: Global,
-    list: &[NodeId],
+    bunch: &Receiver,
     kind: &Value,
-    this: CellId,
-    store: &mut Store,
+    shared: &mut Shared,
     meter: &mut Meter,
-    w: WidgetId,
-    page: &Page,
-    around: &mut Loop,
+    widget: &mut Widget,
 ) -> Result<NativeOut, Memory>
-    requires nodes { AreNodes page.now w.index list.now }
-    requires held { IsHeld w.index store.old.cells this }
-    requires sound { IsSound w.index store.old page.now around.old }
-    ensures native { (b : Option Bool) → IfOk result (λ o.
-        RefinesAt w.index (beside store.old page.now around.old b)
-        (beside store.new page.now around.new b) meter.old meter.new
-        (λ d s. means.write_method names.Off (map (number page.now w.index) list.now)
-        (seen w.index store.old.cells (Value.Ref this)) (seen w.index store.old.cells kind.now ∷ []) d s) o) }
-    ensures kept { KeepsAll w.index store.old store.new page.now page.now around.new }
+    requires bunch { IsBunchOf shared.old widget.old bunch.now.cell bunch.now.nodes.now }
+    requires sound { IsSoundIn shared.old widget.old }
+    ensures { Runs shared.old shared.new widget.old widget.new meter.old meter.new names.Off
+        bunch.now.cell bunch.now.nodes.now (kind.now ∷ []) result }
 {
     if is_undefined(kind) {
         let change = Change::Hush { kind: None };
-        return keep(
-            alloc,
-            list,
-            &change,
-            Cost::Nothing,
-            this,
-            store,
-            meter,
-            w,
-            page,
-            around,
-        );
+        return keep(bunch, &change, Cost::Nothing, shared, meter, widget);
     }
     if is_object(kind) {
         return Ok(NativeOut::Throw(Fault::E4));
     }
-    let kind = read_text(alloc, kind)?;
+    let kind = read_text(shared.alloc, kind)?;
     if !is_event_type(&kind) {
         return Ok(NativeOut::Throw(Fault::E4));
     }
     let change = Change::Hush { kind: Some(kind) };
-    keep(
-        alloc,
-        list,
-        &change,
-        Cost::Nothing,
-        this,
-        store,
-        meter,
-        w,
-        page,
-        around,
-    )
+    keep(bunch, &change, Cost::Nothing, shared, meter, widget)
 }
 
 /// `mark(v)`.
 pub fn set_mark(
-    alloc: Global,
-    list: &[NodeId],
+    bunch: &Receiver,
     value: &Value,
-    this: CellId,
-    store: &mut Store,
+    shared: &mut Shared,
     meter: &mut Meter,
-    w: WidgetId,
-    page: &Page,
-    around: &mut Loop,
+    widget: &mut Widget,
 ) -> Result<NativeOut, Memory>
-    requires nodes { AreNodes page.now w.index list.now }
-    requires held { IsHeld w.index store.old.cells this }
-    requires sound { IsSound w.index store.old page.now around.old }
-    ensures native { (b : Option Bool) → IfOk result (λ o.
-        RefinesAt w.index (beside store.old page.now around.old b)
-        (beside store.new page.now around.new b) meter.old meter.new
-        (λ d s. means.write_method names.SetMark (map (number page.now w.index) list.now)
-        (seen w.index store.old.cells (Value.Ref this)) (seen w.index store.old.cells value.now ∷ []) d s) o) }
-    ensures kept { KeepsAll w.index store.old store.new page.now page.now around.new }
+    requires bunch { IsBunchOf shared.old widget.old bunch.now.cell bunch.now.nodes.now }
+    requires sound { IsSoundIn shared.old widget.old }
+    ensures { Runs shared.old shared.new widget.old widget.new meter.old meter.new names.SetMark
+        bunch.now.cell bunch.now.nodes.now (value.now ∷ []) result }
 {
     if is_object(value) {
         return Ok(NativeOut::Throw(Fault::E4));
     }
-    let text = read_text(alloc, value)?;
+    let text = read_text(shared.alloc, value)?;
     let change = Change::Mark { text };
-    keep(
-        alloc,
-        list,
-        &change,
-        Cost::Nothing,
-        this,
-        store,
-        meter,
-        w,
-        page,
-        around,
-    )
+    keep(bunch, &change, Cost::Nothing, shared, meter, widget)
 }
 
 /// `protect()`.
 pub fn protect(
-    alloc: Global,
-    list: &[NodeId],
-    this: CellId,
-    store: &mut Store,
+    bunch: &Receiver,
+    shared: &mut Shared,
     meter: &mut Meter,
-    w: WidgetId,
-    page: &Page,
-    around: &mut Loop,
+    widget: &mut Widget,
 ) -> Result<NativeOut, Memory>
-    requires nodes { AreNodes page.now w.index list.now }
-    requires held { IsHeld w.index store.old.cells this }
-    requires sound { IsSound w.index store.old page.now around.old }
-    ensures native { (b : Option Bool) → IfOk result (λ o.
-        RefinesAt w.index (beside store.old page.now around.old b)
-        (beside store.new page.now around.new b) meter.old meter.new
-        (λ d s. means.write_method names.Protect (map (number page.now w.index) list.now)
-        (seen w.index store.old.cells (Value.Ref this)) ([]) d s) o) }
-    ensures kept { KeepsAll w.index store.old store.new page.now page.now around.new }
+    requires bunch { IsBunchOf shared.old widget.old bunch.now.cell bunch.now.nodes.now }
+    requires sound { IsSoundIn shared.old widget.old }
+    ensures { Runs shared.old shared.new widget.old widget.new meter.old meter.new names.Protect
+        bunch.now.cell bunch.now.nodes.now [] result }
 {
     keep(
-        alloc,
-        list,
+        bunch,
         &Change::Protect,
         Cost::Nothing,
-        this,
-        store,
+        shared,
         meter,
-        w,
-        page,
-        around,
+        widget,
     )
 }

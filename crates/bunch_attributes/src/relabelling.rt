@@ -1,17 +1,12 @@
 //! Changes of what nodes are.
-ghost use Rattle.std.specs.Prelude.{◌≡◌, ℕ, Bool, Option, true, false, IfOk, OnOk, map};
+ghost use Rattle.std.specs.Prelude.{◌≡◌, ℕ, true, false, OnOk, map};
 ghost use Rattle.std.specs.List.{fold};
 ghost use Rattle.query_grammar.specs.Finds.{has_number};
-ghost use Rattle.event_loop.specs.declared.around.Loop.{Loop};
-ghost use Rattle.js_image.specs.Held.{IsHeld};
-ghost use Rattle.js_image.specs.Image.{seen};
 ghost use Rattle.page_image.specs.Image.{HasRoot, forest, number, owns, relabel_in};
 ghost use Rattle.page_image.specs.Stays.{HostStays, KeepsNodes, OthersStay};
 ghost use Rattle.page_image.specs.Targets.{is_text_at};
+ghost use Rattle.native_image.specs.Handed.{IsBunchOf, IsSoundIn, Writes, numbers, sees};
 ghost use Rattle.native_image.specs.Charges.{IsPrice, Price};
-ghost use Rattle.native_image.specs.Image.{beside};
-ghost use Rattle.native_image.specs.Refines.{RefinesAt};
-ghost use Rattle.native_image.specs.Sound.{AreNodes, IsSound, KeepsAll};
 ghost use Rattle.bunch_attributes.specs.Labels.{meant, relabel_plan};
 
 use crate::judging::{Test, all_pass};
@@ -20,8 +15,8 @@ use code_units::{Memory, Text};
 use js_image::Fault;
 use js_values::{Meter, NativeOut};
 use native_common::WidgetId;
-use native_image::{Cost, begin};
-use object_store::{CellId, Store, Value};
+use native_image::{Cost, Receiver, Shared, Widget, begin};
+use object_store::Value;
 use page_image::set_attr;
 use page_tree::{NodeId, Page};
 use std::alloc::Global;
@@ -108,34 +103,38 @@ fn change_all(
 
 /// Changes all nodes of a Bunch, which is given back.
 pub(crate) fn relabel(
-    alloc: Global,
-    list: &[NodeId],
+    bunch: &Receiver,
     how: &Relabelling,
-    this: CellId,
-    store: &mut Store,
+    shared: &mut Shared,
     meter: &mut Meter,
-    w: WidgetId,
-    page: &mut Page,
+    widget: &Widget,
 ) -> Result<NativeOut, Memory>
-    requires nodes { AreNodes page.old w.index list.now }
-    requires home { HasRoot page.old w.index }
-    requires held { IsHeld w.index store.old.cells this }
-    ensures native { (l : Loop) (b : Option Bool) (c : Price) → IsSound w.index store.old page.old l
-        → IsPrice how.now.cost c
-        → IfOk result (λ o. RefinesAt w.index (beside store.old page.old l b)
-        (beside store.new page.new l b) meter.old meter.new
-        (λ d s. relabel_plan how.now.test how.now.change c (map (number page.old w.index) list.now)
-        (seen w.index store.old.cells (Value.Ref this)) s) o) }
-    ensures kept { (l : Loop) → IsSound w.index store.old page.old l
-        → KeepsAll w.index store.old store.new page.old page.new l }
+    requires bunch { IsBunchOf shared.old widget.now bunch.now.cell bunch.now.nodes.now }
+    requires sound { IsSoundIn shared.old widget.now }
+    ensures { (c : Price) → IsPrice how.now.cost c
+        → Writes shared.old shared.new widget.now widget.now meter.old meter.new
+        (λ d s. relabel_plan how.now.test how.now.change c (numbers shared.old widget.now bunch.now.nodes.now)
+        (sees shared.old widget.now (Value.Ref bunch.now.cell)) s) result }
 {
-    if !all_pass(list, how.test, w, page) {
+    if !all_pass(bunch.nodes, how.test, widget.id, &shared.page) {
         return Ok(NativeOut::Throw(Fault::E10));
     }
-    match begin(store, meter, w, list.len(), how.cost) {
+    match begin(
+        &mut shared.store,
+        meter,
+        widget.id,
+        bunch.nodes.len(),
+        how.cost,
+    ) {
         Ok(()) => {
-            change_all(alloc, list, &how.change, w, page)?;
-            Ok(NativeOut::Value(Value::Ref(this)))
+            change_all(
+                shared.alloc,
+                bunch.nodes,
+                &how.change,
+                widget.id,
+                &mut shared.page,
+            )?;
+            Ok(NativeOut::Value(Value::Ref(bunch.cell)))
         }
         Err(out) => Ok(out),
     }

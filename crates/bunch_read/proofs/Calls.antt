@@ -1,6 +1,7 @@
 -- What the natives of this crate are in the meaning.
 use Rattle.std.proofs.Common.{◌≡◌, ℕ, ◌<◌, arith, eqb, eqb-true, Bool, ◌||◌, List, [], ◌∷◌, true, false, refl, sym, ap, ◌∙◌, subst, map, Option, None, Some}
-use Rattle.std.specs.Prelude.{Result, IfOk, IfSome}
+use Rattle.std.specs.Prelude.{Result, IfSome}
+use Rattle.code_units.specs.declared.memory.Memory.{Memory}
 use Rattle.std.specs.declared.vec.Vec.{Vec}
 use Rattle.std.specs.declared.alloc.Global.{Global}
 use Rattle.std.specs.Option.{option_and_then}
@@ -22,7 +23,7 @@ use Rattle.widget_meaning.specs.BunchReads.{query, read_method}
 use Rattle.widget_meaning.specs.OwnState as state
 use Rattle.widget_meaning.specs.OwnState.{State}
 use Rattle.widget_meaning.specs.Costs.{or_throw, throw}
-use Rattle.store_cells.specs.Cells.{Cells, PlainCell}
+use Rattle.store_cells.specs.Cells.{PlainCell}
 use Rattle.code_units.specs.declared.owner.Owner.TheVariants as owner
 use Rattle.page_tree.specs.declared.page.Page.{Page}
 use Rattle.page_tree.specs.Pages.{root}
@@ -31,10 +32,11 @@ use Rattle.page_image.proofs.Looks.{root_owned}
 use Rattle.page_image.proofs.Pages.{is_widget}
 use Rattle.query_grammar.specs.Finds.{has_number}
 use Rattle.native_image.specs.Sound.{AreNodes}
-use Rattle.event_loop.specs.declared.around.Loop.{Loop}
 use Rattle.js_values.specs.Fuel.{Fuel}
 use Rattle.js_values.specs.declared.outcome.NativeOut.{NativeOut}
-use Rattle.native_image.specs.Refines.{Reads}
+use Rattle.native_image.specs.Handed.{Reads, numbers, sees}
+use Rattle.native_image.specs.declared.handed.Shared.{Shared}
+use Rattle.native_image.specs.declared.handed.Widget.{Widget}
 use Rattle.bunch_read.specs.Part.{is_part}
 
 not_here : false ≡ true → ⊥
@@ -50,12 +52,8 @@ pub first_seen : (w : ℕ) (cells : List PlainCell) (vs : List Value) (v : Value
 first_seen w cells vs v e = nth_seen w cells vs 0 ∙ ap (seen w cells) (sym e)
 
 -- one method
-module _ (w : ℕ) (old new : Cells) (p : Page) (l : Loop) (had has : Fuel) (ns : List ℕ) (v : meaning.Value) where
-  pub of_method : {E : Type 0} (r : Result NativeOut E) (m k : ReadNative) → m ≡ k → IfOk r (λ o. Reads w old new p l had has (λ d s. read_method k ns (v ∷ []) s) o) → IfOk r (λ o. Reads w old new p l had has (λ d s. read_method m ns (v ∷ []) s) o)
-  of_method r m k e h = subst (λ q. IfOk r (λ o. Reads w old new p l had has (λ d s. read_method q ns (v ∷ []) s) o)) (sym e) h
-
-  pub at_method : (o : NativeOut) (m k : ReadNative) → m ≡ k → Reads w old new p l had has (λ d s. read_method k ns (v ∷ []) s) o → Reads w old new p l had has (λ d s. read_method m ns (v ∷ []) s) o
-  at_method o m k e h = subst (λ q. Reads w old new p l had has (λ d s. read_method q ns (v ∷ []) s) o) (sym e) h
+pub of_method : (h new : Shared) (v : Widget) (had has : Fuel) (list : List ℕ) (first : Value) (r : Result NativeOut Memory) {m k : ReadNative} → m ≡ k → Reads h new v had has (λ d s. read_method k (numbers h v list) (sees h v first ∷ []) s) r → Reads h new v had has (λ d s. read_method m (numbers h v list) (sees h v first ∷ []) s) r
+of_method h new v had has list first r e m = subst (λ n. Reads h new v had has (λ d s. read_method n (numbers h v list) (sees h v first ∷ []) s) r) (sym e) m
 
 -- ## A native of this crate
 

@@ -7,13 +7,12 @@ ghost use Rattle.native_image.specs.Sound.{AreNodes};
 
 use code_units::{Memory, Text};
 use js_image::word;
-use native_common::WidgetId;
 use page_image::attr_of_word;
 use page_tree::{NodeId, Page};
 use std::alloc::Global;
 
 // A text for a second holder, or the empty one.
-pub(crate) fn shared(alloc: Global, text: Option<&Text>) -> Result<Text, Memory>
+pub(crate) fn text_or_empty(alloc: Global, text: Option<&Text>) -> Result<Text, Memory>
     ensures { IfOk result (λ t. t ≡ unwrap_or (option_copied text.entry) []) }
 {
     match text {
@@ -26,15 +25,15 @@ pub(crate) fn shared(alloc: Global, text: Option<&Text>) -> Result<Text, Memory>
 pub(crate) fn first_found<'a>(
     list: &[NodeId],
     name: &[u8],
-    w: WidgetId,
+    w: u32,
     page: &'a Page,
 ) -> Option<&'a Text>
-    requires { AreNodes page.now w.index list.now }
-    ensures { (s : State) → s.own.forest ≡ forest page.now w.index
-        → option_copied result ≡ means.first_found s (map (number page.now w.index) list.now) name.now }
+    requires { AreNodes page.now w list.now }
+    ensures { (s : State) → s.own.forest ≡ forest page.now w
+        → option_copied result ≡ means.first_found s (map (number page.now w) list.now) name.now }
 {
     match list.first() {
-        Some(node) => attr_of_word(page, w.index, *node, name),
+        Some(node) => attr_of_word(page, w, *node, name),
         None => None,
     }
 }
@@ -44,12 +43,12 @@ pub(crate) fn first_attribute(
     alloc: Global,
     list: &[NodeId],
     name: &[u8],
-    w: WidgetId,
+    w: u32,
     page: &Page,
 ) -> Result<Text, Memory>
-    requires { AreNodes page.now w.index list.now }
-    ensures { (s : State) → s.own.forest ≡ forest page.now w.index
-        → IfOk result (λ t. t ≡ means.first_attribute s (map (number page.now w.index) list.now) name.now) }
+    requires { AreNodes page.now w list.now }
+    ensures { (s : State) → s.own.forest ≡ forest page.now w
+        → IfOk result (λ t. t ≡ means.first_attribute s (map (number page.now w) list.now) name.now) }
 {
-    shared(alloc, first_found(list, name, w, page))
+    text_or_empty(alloc, first_found(list, name, w, page))
 }

@@ -9,12 +9,11 @@ ghost use Rattle.widget_meaning.specs.Queries.{finds};
 ghost use Rattle.widget_meaning.specs.Trees.{parent as meaning_parent};
 ghost use Rattle.event_image.specs.Image.{Shows};
 ghost use Rattle.event_loop.specs.Around.{focus as loop_focus};
-ghost use Rattle.js_image.specs.Image.{seen};
 ghost use Rattle.page_image.specs.Held.{OptionIn};
 ghost use Rattle.page_image.specs.Image.{forest, number, owns};
 ghost use Rattle.bunch_read.specs.Finding.{AreApart, Opens, added, begins_next};
-ghost use Rattle.native_image.specs.Refines.{Reads};
-ghost use Rattle.native_image.specs.Sound.{AreNodes, HoldsOwn, IsSound, KeepsStore};
+ghost use Rattle.native_image.specs.Handed.{AreIts, IsSoundIn, Reads, numbers, sees};
+ghost use Rattle.native_image.specs.Sound.{AreNodes};
 
 use code_units::{Memory, Owner};
 use event_image::is_protected;
@@ -23,8 +22,8 @@ use indexmap::IndexSet;
 use js_image::Fault;
 use js_values::{Meter, NativeOut};
 use native_common::{WidgetId, is_object, read_text, take};
-use native_image::give_bunch;
-use object_store::{Store, Value};
+use native_image::{Shared, Widget, give_bunch};
+use object_store::Value;
 use page_image::{made, parent};
 use page_tree::{NodeId, Page};
 use query_image::find;
@@ -53,15 +52,15 @@ fn push(list: &mut Vec<NodeId>, node: NodeId) -> Result<(), Memory>
 fn keep_open(
     found: &mut Vec<NodeId>,
     node: NodeId,
-    w: WidgetId,
+    w: u32,
     page: &Page,
     around: &Loop,
 ) -> Result<(), Memory>
-    requires { owns page.now w.index node ≡ true }
-    ensures { (g : ℕ → ℕ) (s : State) → Shows page.now w.index g around.now s.own → OnOk result (found.new.items
-        ≡ found.old.items ++ (if not (kept_at s (number page.now w.index node)).is_protected then node ∷ [] else [])) }
+    requires { owns page.now w node ≡ true }
+    ensures { (g : ℕ → ℕ) (s : State) → Shows page.now w g around.now s.own → OnOk result (found.new.items
+        ≡ found.old.items ++ (if not (kept_at s (number page.now w node)).is_protected then node ∷ [] else [])) }
 {
-    if is_protected(around, page, w.index, node) {
+    if is_protected(around, page, w, node) {
         return Ok(());
     }
     push(found, node)
@@ -71,13 +70,13 @@ fn keep_open(
 fn open_nodes(
     alloc: Global,
     list: &[NodeId],
-    w: WidgetId,
+    w: u32,
     page: &Page,
     around: &Loop,
 ) -> Result<Vec<NodeId>, Memory>
-    requires { (n : ℕ) → has_number list.now n ≡ true → owns page.now w.index n ≡ true }
-    ensures { (g : ℕ → ℕ) (s : State) → Shows page.now w.index g around.now s.own
-        → IfOk result (λ ns. Opens page.now w.index s list.now ns.items) }
+    requires { (n : ℕ) → has_number list.now n ≡ true → owns page.now w n ≡ true }
+    ensures { (g : ℕ → ℕ) (s : State) → Shows page.now w g around.now s.own
+        → IfOk result (λ ns. Opens page.now w s list.now ns.items) }
 {
     let mut found = Vec::new(alloc);
     'each: for node in list {
@@ -124,7 +123,7 @@ fn found(
     ensures apart { IfOk result (λ ns. AreApart page.now w.index ns.items) }
 {
     if begins_next(query) {
-        let starts = open_nodes(alloc, list, w, page, around)?;
+        let starts = open_nodes(alloc, list, w.index, page, around)?;
         found_from(alloc, &starts, query, w, page, around)
     } else {
         found_from(alloc, list, query, w, page, around)
@@ -141,27 +140,35 @@ fn steps_len(query: &Query) -> usize
 
 // `q` of a query that was read.
 fn find_bunch(
-    alloc: Global,
     list: &[NodeId],
     query: &Query,
-    store: &mut Store,
+    shared: &mut Shared,
     meter: &mut Meter,
-    w: WidgetId,
-    page: &Page,
-    around: &Loop,
+    widget: &Widget,
 ) -> Result<NativeOut, Memory>
-    requires nodes { AreNodes page.now w.index list.now }
-    requires sound { IsSound w.index store.old page.now around.now }
-    ensures native { IfOk result (λ o. Reads w.index store.old store.new page.now around.now meter.old meter.new
-        (λ d s. means.query_steps (Some query.now) (map (number page.now w.index) list.now) s) o) }
-    ensures holds { HoldsOwn w.index store.new page.now around.now }
-    ensures kept { KeepsStore w.index store.old store.new }
+    requires nodes { AreIts shared.old widget.now list.now }
+    requires sound { IsSoundIn shared.old widget.now }
+    ensures { Reads shared.old shared.new widget.now meter.old meter.new
+        (λ d s. means.query_steps (Some query.now) (numbers shared.old widget.now list.now) s) result }
 {
-    let extra = steps_len(query).saturating_mul(made(page, w.index) as usize);
+    let extra = steps_len(query).saturating_mul(made(&shared.page, widget.id.index) as usize);
     match take(meter, extra) {
         Ok(()) => {
-            let nodes = found(alloc, list, query, w, page, around)?;
-            give_bunch(alloc, store, w, page, nodes)
+            let nodes = found(
+                shared.alloc,
+                list,
+                query,
+                widget.id,
+                &shared.page,
+                &widget.around,
+            )?;
+            give_bunch(
+                shared.alloc,
+                &mut shared.store,
+                widget.id,
+                &shared.page,
+                nodes,
+            )
         }
         Err(_) => Ok(NativeOut::OutOfFuel),
     }
@@ -169,47 +176,42 @@ fn find_bunch(
 
 /// `q(query)`.
 pub(crate) fn query(
-    alloc: Global,
     list: &[NodeId],
     text: &Value,
-    store: &mut Store,
+    shared: &mut Shared,
     meter: &mut Meter,
-    w: WidgetId,
-    page: &Page,
-    around: &Loop,
+    widget: &Widget,
 ) -> Result<NativeOut, Memory>
-    requires nodes { AreNodes page.now w.index list.now }
-    requires sound { IsSound w.index store.old page.now around.now }
-    ensures native { IfOk result (λ o. Reads w.index store.old store.new page.now around.now meter.old meter.new
-        (λ d s. means.query (map (number page.now w.index) list.now) (seen w.index store.old.cells text.now) s) o) }
-    ensures holds { HoldsOwn w.index store.new page.now around.now }
-    ensures kept { KeepsStore w.index store.old store.new }
+    requires nodes { AreIts shared.old widget.now list.now }
+    requires sound { IsSoundIn shared.old widget.now }
+    ensures { Reads shared.old shared.new widget.now meter.old meter.new (λ d s. means.query
+        (numbers shared.old widget.now list.now) (sees shared.old widget.now text.now) s) result }
 {
     if is_object(text) {
         return Ok(NativeOut::Throw(Fault::E4));
     }
-    let text = read_text(alloc, text)?;
-    match read_query(alloc, &text) {
-        Ok(query) => find_bunch(alloc, list, &query, store, meter, w, page, around),
+    let text = read_text(shared.alloc, text)?;
+    match read_query(shared.alloc, &text) {
+        Ok(query) => find_bunch(list, &query, shared, meter, widget),
         Err(QueryFault::BadQuery { .. }) => Ok(NativeOut::Throw(Fault::E9)),
         Err(QueryFault::Memory) => Err(Memory),
     }
 }
 
 // Whether a node has a parent and is not protected.
-fn is_open(node: NodeId, w: WidgetId, page: &Page, around: &Loop) -> bool
-    requires { owns page.now w.index node ≡ true }
-    ensures { (g : ℕ → ℕ) (s : State) → Shows page.now w.index g around.now s.own
-        → result ≡ means.has_open_parent s (number page.now w.index node) }
+fn is_open(node: NodeId, w: u32, page: &Page, around: &Loop) -> bool
+    requires { owns page.now w node ≡ true }
+    ensures { (g : ℕ → ℕ) (s : State) → Shows page.now w g around.now s.own
+        → result ≡ means.has_open_parent s (number page.now w node) }
 {
-    parent(page, w.index, node).is_some() && !is_protected(around, page, w.index, node)
+    parent(page, w, node).is_some() && !is_protected(around, page, w, node)
 }
 
 // Whether each node has a parent and is not protected.
-fn all_open(list: &[NodeId], w: WidgetId, page: &Page, around: &Loop) -> bool
-    requires { (n : ℕ) → has_number list.now n ≡ true → owns page.now w.index n ≡ true }
-    ensures { (g : ℕ → ℕ) (s : State) → Shows page.now w.index g around.now s.own
-        → result ≡ list_all (means.has_open_parent s) (map (number page.now w.index) list.now) }
+fn all_open(list: &[NodeId], w: u32, page: &Page, around: &Loop) -> bool
+    requires { (n : ℕ) → has_number list.now n ≡ true → owns page.now w n ≡ true }
+    ensures { (g : ℕ → ℕ) (s : State) → Shows page.now w g around.now s.own
+        → result ≡ list_all (means.has_open_parent s) (map (number page.now w) list.now) }
 {
     'each: for node in list {
         if !is_open(*node, w, page, around) {
@@ -250,32 +252,30 @@ fn keep_parent(
     seen: &mut IndexSet<NodeId>,
     found: &mut Vec<NodeId>,
     node: NodeId,
-    w: WidgetId,
+    w: u32,
     page: &Page,
 ) -> Result<(), Memory>
-    requires own { owns page.now w.index node ≡ true }
+    requires own { owns page.now w node ≡ true }
     requires same { seen.old.keys ≡ found.old.items }
-    requires found { AreApart page.now w.index found.old.items }
-    ensures image { (s : State) → s.own.forest ≡ forest page.now w.index
-        → OnOk result (map (number page.now w.index) found.new.items
-        ≡ added (map (number page.now w.index) found.old.items)
-        (meaning_parent (number page.now w.index node) s.own.forest)) }
+    requires found { AreApart page.now w found.old.items }
+    ensures image { (s : State) → s.own.forest ≡ forest page.now w
+        → OnOk result (map (number page.now w) found.new.items
+        ≡ added (map (number page.now w) found.old.items) (meaning_parent (number page.now w node) s.own.forest)) }
     ensures same { OnOk result (seen.new.keys ≡ found.new.items) }
-    ensures found { OnOk result (AreApart page.now w.index found.new.items) }
+    ensures found { OnOk result (AreApart page.now w found.new.items) }
 {
-    match parent(page, w.index, node) {
+    match parent(page, w, node) {
         Some(above) => keep_once(seen, found, above),
         None => Ok(()),
     }
 }
 
 // The parents of nodes, first seen first, each once.
-fn parents(alloc: Global, list: &[NodeId], w: WidgetId, page: &Page) -> Result<Vec<NodeId>, Memory>
-    requires { (n : ℕ) → has_number list.now n ≡ true → owns page.now w.index n ≡ true }
-    ensures image { (s : State) → s.own.forest ≡ forest page.now w.index
-        → IfOk result (λ ns. map (number page.now w.index) ns.items
-        ≡ once [] (filter_map (λ n. meaning_parent n s.own.forest) (map (number page.now w.index) list.now))) }
-    ensures apart { IfOk result (λ ns. AreApart page.now w.index ns.items) }
+fn parents(alloc: Global, list: &[NodeId], w: u32, page: &Page) -> Result<Vec<NodeId>, Memory>
+    requires { (n : ℕ) → has_number list.now n ≡ true → owns page.now w n ≡ true }
+    ensures image { (s : State) → s.own.forest ≡ forest page.now w → IfOk result (λ ns. map (number page.now w) ns.items
+        ≡ once [] (filter_map (λ n. meaning_parent n s.own.forest) (map (number page.now w) list.now))) }
+    ensures apart { IfOk result (λ ns. AreApart page.now w ns.items) }
 {
     let mut seen = IndexSet::new(alloc);
     let mut found = Vec::new(alloc);
@@ -287,28 +287,29 @@ fn parents(alloc: Global, list: &[NodeId], w: WidgetId, page: &Page) -> Result<V
 
 /// `getParent()`.
 pub(crate) fn get_parent(
-    alloc: Global,
     list: &[NodeId],
-    store: &mut Store,
+    shared: &mut Shared,
     meter: &mut Meter,
-    w: WidgetId,
-    page: &Page,
-    around: &Loop,
+    widget: &Widget,
 ) -> Result<NativeOut, Memory>
-    requires nodes { AreNodes page.now w.index list.now }
-    requires sound { IsSound w.index store.old page.now around.now }
-    ensures native { IfOk result (λ o. Reads w.index store.old store.new page.now around.now meter.old meter.new
-        (λ d s. means.get_parent (map (number page.now w.index) list.now) s) o) }
-    ensures holds { HoldsOwn w.index store.new page.now around.now }
-    ensures kept { KeepsStore w.index store.old store.new }
+    requires nodes { AreIts shared.old widget.now list.now }
+    requires sound { IsSoundIn shared.old widget.now }
+    ensures { Reads shared.old shared.new widget.now meter.old meter.new
+        (λ d s. means.get_parent (numbers shared.old widget.now list.now) s) result }
 {
-    if !all_open(list, w, page, around) {
+    if !all_open(list, widget.id.index, &shared.page, &widget.around) {
         return Ok(NativeOut::Throw(Fault::E10));
     }
     match take(meter, list.len()) {
         Ok(()) => {
-            let nodes = parents(alloc, list, w, page)?;
-            give_bunch(alloc, store, w, page, nodes)
+            let nodes = parents(shared.alloc, list, widget.id.index, &shared.page)?;
+            give_bunch(
+                shared.alloc,
+                &mut shared.store,
+                widget.id,
+                &shared.page,
+                nodes,
+            )
         }
         Err(_) => Ok(NativeOut::OutOfFuel),
     }

@@ -1,22 +1,19 @@
 //! The methods that show a text of the first node.
-ghost use Rattle.std.specs.Prelude.{◌≡◌, ℕ, List, IfOk, map};
-ghost use Rattle.js_tree.specs.Forest.{Forest};
+ghost use Rattle.std.specs.Prelude.{◌≡◌, ℕ, IfOk, map};
 ghost use Rattle.widget_meaning.specs.BunchReads as means;
 ghost use Rattle.widget_meaning.specs.OwnState.{State};
 ghost use Rattle.event_image.specs.Image.{Shows};
-ghost use Rattle.js_image.specs.Held.{Kept};
 ghost use Rattle.page_image.specs.Image.{number};
-ghost use Rattle.native_image.specs.Refines.{Reads};
-ghost use Rattle.native_image.specs.Sound.{AreNodes, IsSound};
+ghost use Rattle.native_image.specs.Handed.{AreIts, IsSoundIn, Reads, numbers};
+ghost use Rattle.native_image.specs.Sound.{AreNodes};
 
 use crate::attributes::first_attribute;
 use crate::first::{first_mark, first_tag};
 use code_units::{Memory, Text};
 use event_loop::Loop;
 use js_values::{Meter, NativeOut};
-use native_common::WidgetId;
-use native_image::give_page_text;
-use object_store::{ReadNative, Store, Value};
+use native_image::{Shared, Widget, give_page_text};
+use object_store::{ReadNative, Value};
 use page_tree::{NodeId, Page};
 use std::alloc::Global;
 
@@ -25,14 +22,14 @@ fn shown(
     alloc: Global,
     method: ReadNative,
     list: &[NodeId],
-    w: WidgetId,
+    w: u32,
     page: &Page,
     around: &Loop,
 ) -> Result<Option<Text>, Memory>
     requires other { method ≡ ReadNative.GetValue → ⊥ }
-    requires nodes { AreNodes page.now w.index list.now }
-    ensures { (g : ℕ → ℕ) (s : State) → Shows page.now w.index g around.now s.own
-        → IfOk result (λ t. t ≡ means.shown method s (map (number page.now w.index) list.now)) }
+    requires nodes { AreNodes page.now w list.now }
+    ensures { (g : ℕ → ℕ) (s : State) → Shows page.now w g around.now s.own
+        → IfOk result (λ t. t ≡ means.shown method s (map (number page.now w) list.now)) }
 {
     match method {
         ReadNative::GetValue => unreachable!(),
@@ -46,24 +43,27 @@ fn shown(
 
 /// Each of these methods but `getValue()`, whose extra counts the units too: it is taken before the text is made.
 pub(crate) fn show(
-    alloc: Global,
     method: ReadNative,
     list: &[NodeId],
-    store: &mut Store,
+    shared: &mut Shared,
     meter: &mut Meter,
-    w: WidgetId,
-    page: &Page,
-    around: &Loop,
+    widget: &Widget,
 ) -> Result<NativeOut, Memory>
     requires other { method ≡ ReadNative.GetValue → ⊥ }
-    requires nodes { AreNodes page.now w.index list.now }
-    ensures native { IsSound w.index store.old page.now around.now
-        → IfOk result (λ o. Reads w.index store.old store.new page.now around.now meter.old meter.new
-        (λ d s. means.show method (map (number page.now w.index) list.now) s) o) }
-    ensures kept { (fs : List Forest) → Kept fs w.index store.old store.new }
+    requires nodes { AreIts shared.old widget.now list.now }
+    requires sound { IsSoundIn shared.old widget.now }
+    ensures { Reads shared.old shared.new widget.now meter.old meter.new
+        (λ d s. means.show method (numbers shared.old widget.now list.now) s) result }
 {
-    match shown(alloc, method, list, w, page, around)? {
-        Some(text) => Ok(give_page_text(store, meter, w, list.len(), text)),
+    match shown(
+        shared.alloc,
+        method,
+        list,
+        widget.id.index,
+        &shared.page,
+        &widget.around,
+    )? {
+        Some(text) => Ok(give_page_text(&mut shared.store, meter, widget.id, list.len(), text)),
         None => Ok(NativeOut::Value(Value::Undefined)),
     }
 }

@@ -1,23 +1,17 @@
 //! Styles of the first node.
-ghost use Rattle.std.specs.Prelude.{◌≡◌, List, IfOk, map};
-ghost use Rattle.js_tree.specs.Forest.{Forest};
+ghost use Rattle.std.specs.Prelude.{◌≡◌, IfOk};
 ghost use Rattle.widget_meaning.specs.BunchReads as means;
 ghost use Rattle.widget_meaning.specs.Styles.{style_pairs, style_value};
-ghost use Rattle.event_loop.specs.declared.around.Loop.{Loop};
-ghost use Rattle.js_image.specs.Held.{Kept};
-ghost use Rattle.js_image.specs.Image.{seen};
-ghost use Rattle.page_image.specs.Image.{number};
-ghost use Rattle.native_image.specs.Refines.{Reads};
-ghost use Rattle.native_image.specs.Sound.{AreNodes, IsSound};
+ghost use Rattle.native_image.specs.Handed.{AreIts, IsSoundIn, Reads, numbers, sees};
 
 use crate::attributes::first_attribute;
 use code_units::{Memory, Text};
 use js_image::{Fault, word};
 use js_values::{Meter, NativeOut};
-use native_common::{WidgetId, is_object, read_text};
-use native_image::give_page_text;
-use object_store::{Store, Value};
-use page_tree::{NodeId, Page};
+use native_common::{is_object, read_text};
+use native_image::{Shared, Widget, give_page_text};
+use object_store::Value;
+use page_tree::NodeId;
 use std::alloc::Global;
 use style_text::{StyleFault, property_listed, read_style};
 
@@ -46,29 +40,25 @@ fn style_property(alloc: Global, style: &Text, name: &Text) -> Result<Text, Memo
 
 /// `getStyle(p)`.
 pub(crate) fn get_style(
-    alloc: Global,
     list: &[NodeId],
     property: &Value,
-    store: &mut Store,
+    shared: &mut Shared,
     meter: &mut Meter,
-    w: WidgetId,
-    page: &Page,
+    widget: &Widget,
 ) -> Result<NativeOut, Memory>
-    requires { AreNodes page.now w.index list.now }
-    ensures native { (l : Loop) → IsSound w.index store.old page.now l
-        → IfOk result (λ o. Reads w.index store.old store.new page.now l meter.old meter.new
-        (λ d s. means.get_style (map (number page.now w.index) list.now)
-        (seen w.index store.old.cells property.now) s) o) }
-    ensures kept { (fs : List Forest) → Kept fs w.index store.old store.new }
+    requires nodes { AreIts shared.old widget.now list.now }
+    requires sound { IsSoundIn shared.old widget.now }
+    ensures { Reads shared.old shared.new widget.now meter.old meter.new (λ d s. means.get_style
+        (numbers shared.old widget.now list.now) (sees shared.old widget.now property.now) s) result }
 {
     if is_object(property) {
         return Ok(NativeOut::Throw(Fault::E4));
     }
-    let name = read_text(alloc, property)?;
+    let name = read_text(shared.alloc, property)?;
     if !property_listed(&name) {
         return Ok(NativeOut::Throw(Fault::E4));
     }
-    let style = first_attribute(alloc, list, b"style", w, page)?;
-    let text = style_property(alloc, &style, &name)?;
-    Ok(give_page_text(store, meter, w, list.len(), text))
+    let style = first_attribute(shared.alloc, list, b"style", widget.id.index, &shared.page)?;
+    let text = style_property(shared.alloc, &style, &name)?;
+    Ok(give_page_text(&mut shared.store, meter, widget.id, list.len(), text))
 }

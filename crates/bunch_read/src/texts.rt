@@ -13,111 +13,109 @@ ghost use Rattle.widget_meaning.specs.BunchReads as means;
 ghost use Rattle.widget_meaning.specs.OwnState.{State};
 ghost use Rattle.widget_meaning.specs.NativeForms as forms;
 ghost use Rattle.widget_meaning.specs.PageForms.{is_input, texts_of};
-ghost use Rattle.event_loop.specs.declared.around.Loop.{Loop};
 ghost use Rattle.js_image.specs.Held.{AreFine, Kept};
 ghost use Rattle.native_common.specs.Refines.{Ends};
 ghost use Rattle.native_common.specs.Numbers.{counted};
 ghost use Rattle.page_image.specs.Image.{forest, label_at, number, owns};
+ghost use Rattle.native_image.specs.Handed.{AreIts, IsSoundIn, Reads, numbers};
 ghost use Rattle.native_image.specs.Image.{Parts};
-ghost use Rattle.native_image.specs.Refines.{FiresAtOwn, Reads};
-ghost use Rattle.native_image.specs.Sound.{AreNodes, IsSound};
+ghost use Rattle.native_image.specs.Refines.{FiresAtOwn};
 ghost use Rattle.bunch_read.specs.Values.{all_units, is_long, own_text, value_plan};
 
-use crate::attributes::shared;
+use crate::attributes::text_or_empty;
 use code_units::{Memory, Text, is_word};
 use js_image::{Made, StopCause, make_array};
 use js_values::{Meter, NativeOut};
 use native_common::{WidgetId, take, text_len};
-use native_image::make_text;
+use native_image::{Shared, Widget, make_text};
 use object_store::{Store, Value};
 use page_image::{attr_of_word, children, content, tag};
 use page_tree::{Content, NodeId, Page};
 use std::alloc::Global;
 
 // Whether a node is an `input`.
-fn is_input(node: NodeId, w: WidgetId, page: &Page) -> bool
-    requires { owns page.now w.index node ≡ true }
-    ensures { (s : State) → s.own.forest ≡ forest page.now w.index
-        → result ≡ is_input s (number page.now w.index node) }
+fn is_input(node: NodeId, w: u32, page: &Page) -> bool
+    requires { owns page.now w node ≡ true }
+    ensures { (s : State) → s.own.forest ≡ forest page.now w → result ≡ is_input s (number page.now w node) }
 {
-    match tag(page, w.index, node) {
+    match tag(page, w, node) {
         Some(name) => is_word(name, b"input"),
         None => false,
     }
 }
 
 // What a node has by itself: a text node its units, an element none.
-fn own_units(node: NodeId, w: WidgetId, page: &Page) -> &[u16]
-    requires { owns page.now w.index node ≡ true }
-    ensures { (l : Label) → label_at page.now w.index node ≡ Some l → result.now ≡ own_text l }
+fn own_units(node: NodeId, w: u32, page: &Page) -> &[u16]
+    requires { owns page.now w node ≡ true }
+    ensures { (l : Label) → label_at page.now w node ≡ Some l → result.now ≡ own_text l }
 {
-    match content(page, w.index, node) {
+    match content(page, w, node) {
         Content::Text(text) => text.units(),
         Content::Element(_, _) => &[],
     }
 }
 
 // How many units that are.
-fn own_len(node: NodeId, w: WidgetId, page: &Page) -> usize
-    requires { owns page.now w.index node ≡ true }
-    ensures { (l : Label) → label_at page.now w.index node ≡ Some l → result ≡ counted (length (own_text l)) }
+fn own_len(node: NodeId, w: u32, page: &Page) -> usize
+    requires { owns page.now w node ≡ true }
+    ensures { (l : Label) → label_at page.now w node ≡ Some l → result ≡ counted (length (own_text l)) }
 {
-    match content(page, w.index, node) {
+    match content(page, w, node) {
         Content::Text(text) => text_len(text),
         Content::Element(_, _) => 0,
     }
 }
 
 // How many units the text content of a node has.
-fn content_len(node: NodeId, w: WidgetId, page: &Page) -> usize
-    requires { owns page.now w.index node ≡ true }
-    ensures { result ≡ counted (length (texts_of (subtree (number page.now w.index node) (forest page.now w.index)))) }
+fn content_len(node: NodeId, w: u32, page: &Page) -> usize
+    requires { owns page.now w node ≡ true }
+    ensures { result ≡ counted (length (texts_of (subtree (number page.now w node) (forest page.now w)))) }
 {
     let mut len = own_len(node, w, page);
-    'each: for child in children(page, w.index, node) {
+    'each: for child in children(page, w, node) {
         len = len.saturating_add(content_len(*child, w, page));
     }
     len
 }
 
 // Appends the text content of a node.
-fn push_content(units: &mut Vec<u16>, node: NodeId, w: WidgetId, page: &Page) -> Result<(), Memory>
-    requires { owns page.now w.index node ≡ true }
+fn push_content(units: &mut Vec<u16>, node: NodeId, w: u32, page: &Page) -> Result<(), Memory>
+    requires { owns page.now w node ≡ true }
     ensures { OnOk result (units.new.items
-        ≡ units.old.items ++ texts_of (subtree (number page.now w.index node) (forest page.now w.index))) }
+        ≡ units.old.items ++ texts_of (subtree (number page.now w node) (forest page.now w))) }
 {
     units.extend_from_slice(own_units(node, w, page))?;
-    'each: for child in children(page, w.index, node) {
+    'each: for child in children(page, w, node) {
         push_content(units, *child, w, page)?;
     }
     Ok(())
 }
 
 // How many units the value of a node has.
-fn value_len(node: NodeId, w: WidgetId, page: &Page) -> usize
-    requires { owns page.now w.index node ≡ true }
-    ensures { (s : State) → s.own.forest ≡ forest page.now w.index
-        → result ≡ counted (length (means.value_of s (number page.now w.index node))) }
+fn value_len(node: NodeId, w: u32, page: &Page) -> usize
+    requires { owns page.now w node ≡ true }
+    ensures { (s : State) → s.own.forest ≡ forest page.now w
+        → result ≡ counted (length (means.value_of s (number page.now w node))) }
 {
     if !is_input(node, w, page) {
         return content_len(node, w, page);
     }
-    match attr_of_word(page, w.index, node, b"value") {
+    match attr_of_word(page, w, node, b"value") {
         Some(value) => text_len(value),
         None => 0,
     }
 }
 
 // The value of a node.
-fn value_of(alloc: Global, node: NodeId, w: WidgetId, page: &Page) -> Result<Text, Memory>
-    requires { owns page.now w.index node ≡ true }
-    ensures { (s : State) → s.own.forest ≡ forest page.now w.index
-        → IfOk result (λ t. t ≡ means.value_of s (number page.now w.index node)) }
+fn value_of(alloc: Global, node: NodeId, w: u32, page: &Page) -> Result<Text, Memory>
+    requires { owns page.now w node ≡ true }
+    ensures { (s : State) → s.own.forest ≡ forest page.now w
+        → IfOk result (λ t. t ≡ means.value_of s (number page.now w node)) }
 {
     if is_input(node, w, page) {
-        return shared(alloc, attr_of_word(page, w.index, node, b"value"));
+        return text_or_empty(alloc, attr_of_word(page, w, node, b"value"));
     }
-    if let Content::Text(text) = content(page, w.index, node) {
+    if let Content::Text(text) = content(page, w, node) {
         return text.share();
     }
     let mut units = Vec::new(alloc);
@@ -127,26 +125,24 @@ fn value_of(alloc: Global, node: NodeId, w: WidgetId, page: &Page) -> Result<Tex
 
 // Gives the value of a node, at a charge for so many nodes.
 fn give_value(
-    alloc: Global,
     node: NodeId,
     count: usize,
-    store: &mut Store,
+    shared: &mut Shared,
     meter: &mut Meter,
-    w: WidgetId,
-    page: &Page,
+    widget: &Widget,
 ) -> Result<NativeOut, Memory>
-    requires own { owns page.now w.index node ≡ true }
+    requires own { owns shared.old.page widget.now.id.index node ≡ true }
     requires few { count ≤ 16384 }
-    ensures native { (l : Loop) → IsSound w.index store.old page.now l
-        → IfOk result (λ o. Reads w.index store.old store.new page.now l meter.old meter.new
-        (λ d s. value_plan count (means.value_of s (number page.now w.index node)) s) o) }
-    ensures kept { (fs : List Forest) → Kept fs w.index store.old store.new }
+    requires sound { IsSoundIn shared.old widget.now }
+    ensures { Reads shared.old shared.new widget.now meter.old meter.new (λ d s. value_plan count
+        (means.value_of s (number shared.old.page widget.now.id.index node)) s) result }
 {
-    let extra = count.saturating_add(value_len(node, w, page));
+    let w = widget.id.index;
+    let extra = count.saturating_add(value_len(node, w, &shared.page));
     match take(meter, extra) {
         Ok(()) => {
-            let text = value_of(alloc, node, w, page)?;
-            Ok(make_text(store, w, text))
+            let text = value_of(shared.alloc, node, w, &shared.page)?;
+            Ok(make_text(&mut shared.store, widget.id, text))
         }
         Err(_) => Ok(NativeOut::OutOfFuel),
     }
@@ -154,30 +150,27 @@ fn give_value(
 
 /// `getValue()`.
 pub(crate) fn get_value(
-    alloc: Global,
     list: &[NodeId],
-    store: &mut Store,
+    shared: &mut Shared,
     meter: &mut Meter,
-    w: WidgetId,
-    page: &Page,
+    widget: &Widget,
 ) -> Result<NativeOut, Memory>
-    requires { AreNodes page.now w.index list.now }
-    ensures native { (l : Loop) → IsSound w.index store.old page.now l
-        → IfOk result (λ o. Reads w.index store.old store.new page.now l meter.old meter.new
-        (λ d s. means.show GetValue (map (number page.now w.index) list.now) s) o) }
-    ensures kept { (fs : List Forest) → Kept fs w.index store.old store.new }
+    requires nodes { AreIts shared.old widget.now list.now }
+    requires sound { IsSoundIn shared.old widget.now }
+    ensures { Reads shared.old shared.new widget.now meter.old meter.new
+        (λ d s. means.show GetValue (numbers shared.old widget.now list.now) s) result }
 {
     match list.first() {
-        Some(node) => give_value(alloc, *node, list.len(), store, meter, w, page),
+        Some(node) => give_value(*node, list.len(), shared, meter, widget),
         None => Ok(NativeOut::Value(Value::Undefined)),
     }
 }
 
 // How many units the values of nodes have together.
-fn values_len(list: &[NodeId], w: WidgetId, page: &Page) -> usize
-    requires { (n : ℕ) → has_number list.now n ≡ true → owns page.now w.index n ≡ true }
-    ensures { (s : State) → s.own.forest ≡ forest page.now w.index
-        → result ≡ counted (all_units s (map (number page.now w.index) list.now)) }
+fn values_len(list: &[NodeId], w: u32, page: &Page) -> usize
+    requires { (n : ℕ) → has_number list.now n ≡ true → owns page.now w n ≡ true }
+    ensures { (s : State) → s.own.forest ≡ forest page.now w
+        → result ≡ counted (all_units s (map (number page.now w) list.now)) }
 {
     let mut len = 0usize;
     'each: for node in list {
@@ -187,11 +180,10 @@ fn values_len(list: &[NodeId], w: WidgetId, page: &Page) -> usize
 }
 
 // The values of nodes.
-fn values_of(alloc: Global, list: &[NodeId], w: WidgetId, page: &Page) -> Result<Vec<Value>, Memory>
-    requires { (n : ℕ) → has_number list.now n ≡ true → owns page.now w.index n ≡ true }
-    ensures texts { (s : State) → s.own.forest ≡ forest page.now w.index
-        → IfOk result (λ vs. vs.items
-        ≡ map Value.Text (map (means.value_of s) (map (number page.now w.index) list.now))) }
+fn values_of(alloc: Global, list: &[NodeId], w: u32, page: &Page) -> Result<Vec<Value>, Memory>
+    requires { (n : ℕ) → has_number list.now n ≡ true → owns page.now w n ≡ true }
+    ensures texts { (s : State) → s.own.forest ≡ forest page.now w
+        → IfOk result (λ vs. vs.items ≡ map Value.Text (map (means.value_of s) (map (number page.now w) list.now))) }
     ensures fine { IfOk result (λ vs. (u : ℕ) (cells : List PlainCell) → AreFine u cells vs.items) }
 {
     let mut values = Vec::new(alloc);
@@ -248,27 +240,31 @@ fn give_texts(
 
 /// `getValues()`.
 pub(crate) fn get_values(
-    alloc: Global,
     list: &[NodeId],
-    store: &mut Store,
+    shared: &mut Shared,
     meter: &mut Meter,
-    w: WidgetId,
-    page: &Page,
+    widget: &Widget,
 ) -> Result<NativeOut, Memory>
-    requires { AreNodes page.now w.index list.now }
-    ensures native { (l : Loop) → IsSound w.index store.old page.now l
-        → IfOk result (λ o. Reads w.index store.old store.new page.now l meter.old meter.new
-        (λ d s. means.get_values (map (number page.now w.index) list.now) s) o) }
-    ensures kept { (fs : List Forest) → Kept fs w.index store.old store.new }
+    requires nodes { AreIts shared.old widget.now list.now }
+    requires sound { IsSoundIn shared.old widget.now }
+    ensures { Reads shared.old shared.new widget.now meter.old meter.new
+        (λ d s. means.get_values (numbers shared.old widget.now list.now) s) result }
 {
-    let units = values_len(list, w, page);
+    let w = widget.id.index;
+    let units = values_len(list, w, &shared.page);
 
     // A charge that is taken is at most what was left, so the units fit.
     let _left = meter.left();
     match take(meter, list.len().saturating_add(units)) {
         Ok(()) => {
-            let values = values_of(alloc, list, w, page)?;
-            give_texts(alloc, store, w, values, units as u32)
+            let values = values_of(shared.alloc, list, w, &shared.page)?;
+            give_texts(
+                shared.alloc,
+                &mut shared.store,
+                widget.id,
+                values,
+                units as u32,
+            )
         }
         Err(_) => Ok(NativeOut::OutOfFuel),
     }

@@ -13,6 +13,7 @@ use Rattle.native_image.specs.Image.{Outside, beside, image}
 use Rattle.native_image.specs.Sound.{HoldsOwn, KeepsAll}
 use Rattle.native_image.proofs.Joint.{page_lift}
 use Rattle.native_image.proofs.Keeping.{sound_page}
+use Rattle.native_image.specs.Handed.{state}
 use Rattle.bunch_trees.specs.Changes.{Changes}
 
 -- nothing changed

@@ -4,6 +4,7 @@ use Rattle.std.specs.Prelude.{min, ◌-◌, ◌^◌, nat_lt}
 use Rattle.std.specs.List.{count_by, fold}
 use Rattle.std.proofs.lemmas.Bool.Decides.{nat_tests}
 use Rattle.std.proofs.lemmas.List.Sums.{count_by-le-length}
+use Rattle.native_image.specs.Handed.{numbers}
 use Rattle.native_common.specs.Numbers.{counted}
 
 -- over numbers as over nodes

@@ -15,6 +15,7 @@ use Rattle.js_values.specs.declared.outcome.NativeOut.TheVariants as native
 use Rattle.native_image.specs.Image.{Outside, beside, image}
 use Rattle.native_image.specs.Refines.{EndsAt}
 use Rattle.native_image.specs.Sound.{HoldsOwn, IsSound, KeepsStore}
+use Rattle.native_image.specs.Handed.{state}
 use Rattle.bunch_trees.specs.Changes.{Changes}
 
 module _ (w : ℕ) (s m t : Cells) (p q : Page) (l : Loop) (b : Option Bool) (due : Amounts)

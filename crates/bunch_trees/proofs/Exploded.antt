@@ -23,6 +23,7 @@ use Rattle.native_image.specs.Made.{AreBunches}
 use Rattle.native_image.specs.Sound.{HoldsOwn, KeepsStore}
 use Rattle.native_image.proofs.Joint.{holds_grows, rest, store_lift}
 use Rattle.bunch_trees.specs.Explodes.{IsEmptyArray, IsExploded, filled}
+use Rattle.native_image.specs.Handed.{state}
 use Rattle.bunch_trees.proofs.Filled.{empty_there, exploded_is}
 
 -- as many Bunches as nodes

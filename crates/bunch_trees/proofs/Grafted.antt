@@ -23,6 +23,7 @@ use Rattle.native_image.specs.Image.{Outside, beside, image}
 use Rattle.native_image.specs.Sound.{HoldsOwn}
 use Rattle.native_image.proofs.Joint.{page_lift}
 use Rattle.native_image.proofs.Keeping.{holds_page, page_grows}
+use Rattle.native_image.specs.Handed.{state}
 use Rattle.native_image.proofs.Lifted.{grow_lift, owned_lift}
 
 size_copies : (n : ℕ) (ts : Trees ℕ) → size ts ≡ size (numbered n (copied ts))

@@ -7,6 +7,7 @@ use Rattle.query_grammar.proofs.Numbers.{has_first}
 use Rattle.page_tree.specs.declared.page.Page.{Page}
 use Rattle.page_image.specs.Image.{number, owns}
 use Rattle.native_image.specs.Sound.{KeepsPage}
+use Rattle.native_image.specs.Handed.{numbers}
 use Rattle.native_image.proofs.Lists.{element_in, mapped_one, mapped_whole}
 
 later : (a b : Bool) → b ≡ true → (a || b) ≡ true

@@ -33,8 +33,7 @@ pub(crate) fn put_under(
     requires target { owns page.old w.index target ≡ true }
     requires news { (n : ℕ) → has_number news.now n ≡ true → owns page.old w.index n ≡ true }
     ensures image { OnOk result (forest page.new w.index ≡
-        fold (moved (number page.old w.index target) None) (forest page.old w.index)
-        (map (number page.old w.index) news.now)) }
+        fold (moved (number page.old w.index target) None) (forest page.old w.index) (map (number page.old w.index) news.now)) }
     ensures kept { KeepsNodes page.old page.new }
     ensures others { OthersStay page.old page.new w.index }
     ensures host { HostStays page.old page.new }
@@ -63,12 +62,10 @@ fn copy_all(
 ) -> Result<Vec<NodeId>, Memory>
     requires { (n : ℕ) → has_number news.now n ≡ true → owns page.old w.index n ≡ true }
     ensures copied { IfOk result (λ ids. AreCopied page.old page.new w.index news.now ids.items) }
-    ensures sound { OnOk result ((l : Loop) → IsSound w.index store.old page.old l
-        → IsSound w.index store.new page.new l) }
+    ensures sound { OnOk result ((l : Loop) → IsSound w.index store.old page.old l → IsSound w.index store.new page.new l) }
     ensures same { (v : ℕ) → owned v store.new ≡ owned v store.old }
     ensures store { (fs : List Forest) → Kept fs w.index store.old store.new }
-    ensures kept { (l : Loop) → HoldsOwn w.index store.old page.old l
-        → KeepsAll w.index store.old store.new page.old page.new l }
+    ensures kept { (l : Loop) → HoldsOwn w.index store.old page.old l → KeepsAll w.index store.old store.new page.old page.new l }
 {
     let mut ids = Vec::new(alloc);
     'each: for node in news {
@@ -92,8 +89,7 @@ fn append_copies(
     requires news { (n : ℕ) → has_number news.now n ≡ true → owns page.old w.index n ≡ true }
     ensures done { OnOk result (Changes w.index store.old store.new page.old page.new
         (with_copies (number page.old w.index target) (map (number page.old w.index) news.now))) }
-    ensures kept { (l : Loop) → HoldsOwn w.index store.old page.old l
-        → KeepsAll w.index store.old store.new page.old page.new l }
+    ensures kept { (l : Loop) → HoldsOwn w.index store.old page.old l → KeepsAll w.index store.old store.new page.old page.new l }
 {
     let ids = copy_all(alloc, store, page, w, news)?;
     put_under(page, w, target, &ids)
@@ -114,8 +110,7 @@ fn copies_to(
     ensures done { OnOk result (Changes w.index store.old store.new page.old page.new
         (λ s. fold (λ u t. with_copies t (map (number page.old w.index) news.now) u) s
         (map (number page.old w.index) targets.now))) }
-    ensures kept { (l : Loop) → HoldsOwn w.index store.old page.old l
-        → KeepsAll w.index store.old store.new page.old page.new l }
+    ensures kept { (l : Loop) → HoldsOwn w.index store.old page.old l → KeepsAll w.index store.old store.new page.old page.new l }
 {
     'each: for target in targets {
         append_copies(alloc, store, page, w, *target, news)?;
@@ -153,8 +148,7 @@ pub(crate) fn append_all(
     requires news { (n : ℕ) → has_number news.now n ≡ true → owns page.old w.index n ≡ true }
     ensures done { OnOk result (Changes w.index store.old store.new page.old page.new
         (appended (map (number page.old w.index) targets.now) (map (number page.old w.index) news.now))) }
-    ensures kept { (l : Loop) → HoldsOwn w.index store.old page.old l
-        → KeepsAll w.index store.old store.new page.old page.new l }
+    ensures kept { (l : Loop) → HoldsOwn w.index store.old page.old l → KeepsAll w.index store.old store.new page.old page.new l }
 {
     if targets.is_empty() {
         return Ok(());

@@ -63,8 +63,7 @@ fn put_all(
     requires held { IsHeld w.index store.old.cells array }
     requires values { AreFine w.index store.old.cells values.now }
     requires few { length values.now ≤ 16384 }
-    ensures done { OnOk result ((fs : List Forest) (r : Rest) (n : ℕ)
-        → seen w.index store.old.cells (Value.Ref array) ≡ Own n
+    ensures done { OnOk result ((fs : List Forest) (r : Rest) (n : ℕ) → seen w.index store.old.cells (Value.Ref array) ≡ Own n
         → IsEmptyArray (joint.image fs r w.index store.old) n
         → joint.image fs r w.index store.new
         ≡ filled n (all_seen w.index store.old.cells values.now) (joint.image fs r w.index store.old)) }
@@ -125,8 +124,7 @@ fn explode_weighed(
     ensures ends { (l : Loop) (b : Option Bool) → IsSound w.index store.old page.now l → IfOk result (λ o.
         EndsAt w.index (beside store.old page.now l b) (beside store.new page.now l b)
         (λ d s. explode_paid (map (number page.now w.index) nodes.now) s) o) }
-    ensures kept { (l : Loop) → IsSound w.index store.old page.now l
-        → KeepsAll w.index store.old store.new page.now page.now l }
+    ensures kept { (l : Loop) → IsSound w.index store.old page.now l → KeepsAll w.index store.old store.new page.now page.now l }
 {
     let many = nodes.len() as u32;
     let bill = Bill {
@@ -159,8 +157,7 @@ fn explode_nodes(
     ensures native { (l : Loop) (b : Option Bool) → IsSound w.index store.old page.now l → IfOk result (λ o.
         RefinesAt w.index (beside store.old page.now l b) (beside store.new page.now l b) meter.old meter.new
         (λ d s. means.explode (map (number page.now w.index) nodes.now) s) o) }
-    ensures kept { (l : Loop) → IsSound w.index store.old page.now l
-        → KeepsAll w.index store.old store.new page.now page.now l }
+    ensures kept { (l : Loop) → IsSound w.index store.old page.now l → KeepsAll w.index store.old store.new page.now page.now l }
 {
     match take(meter, nodes.len()) {
         Ok(()) => explode_weighed(alloc, nodes, store, w, page),
@@ -179,12 +176,10 @@ pub fn explode(
 ) -> Result<NativeOut, Memory>
     requires receiver { IsReceiver w.index store.old.cells this.now }
     requires sound { (l : Loop) × IsSound w.index store.old page.now l }
-    ensures native { (l : Loop) (b : Option Bool) (vs : List Meant) → IsSound w.index store.old page.now l
-        → IfOk result (λ o.
+    ensures native { (l : Loop) (b : Option Bool) (vs : List Meant) → IsSound w.index store.old page.now l → IfOk result (λ o.
         RefinesAt w.index (beside store.old page.now l b) (beside store.new page.now l b) meter.old meter.new
         (λ d s. means.read_native names.Explode (receiver w.index store.old.cells this.now) vs d s) o) }
-    ensures kept { (l : Loop) → IsSound w.index store.old page.now l
-        → KeepsAll w.index store.old store.new page.now page.now l }
+    ensures kept { (l : Loop) → IsSound w.index store.old page.now l → KeepsAll w.index store.old store.new page.now page.now l }
 {
     match receiver_of(alloc, store, w, page, this)? {
         Some(list) => explode_nodes(alloc, &list, store, meter, w, page),

@@ -8,14 +8,13 @@ mod appending;
 mod copying;
 mod exploding;
 mod measuring;
-mod receiver;
 mod rooted;
+mod target;
 mod valuing;
 mod writing;
 
 pub use appending::append;
 pub use exploding::explode;
-pub use receiver::Receiver;
 pub use rooted::{dom_append, none_root};
 pub use valuing::set_value;
 pub use writing::text_tree;

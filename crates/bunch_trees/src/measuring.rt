@@ -61,8 +61,7 @@ fn plus(a: Extent, b: Extent) -> Extent
 pub(crate) fn measure(node: NodeId, w: WidgetId, page: &Page) -> Extent
     requires { owns page.now w.index node ≡ true }
     ensures nodes { result.nodes ≡ counted (size (subtree (number page.now w.index node) (forest page.now w.index))) }
-    ensures units { result.units
-        ≡ counted (tree_units (subtree (number page.now w.index node) (forest page.now w.index))) }
+    ensures units { result.units ≡ counted (tree_units (subtree (number page.now w.index node) (forest page.now w.index))) }
 {
     let mut all = Extent {
         nodes: 1,

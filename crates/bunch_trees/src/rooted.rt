@@ -69,8 +69,7 @@ fn under_root(
     ensures ends { (l : Loop) (b : Option Bool) → IsSound w.index store.old page.old l → IfOk result (λ o.
         EndsAt w.index (beside store.old page.old l b) (beside store.new page.new l b)
         (λ d s. root_paid (map (number page.old w.index) news.now) s) o) }
-    ensures kept { (l : Loop) → IsSound w.index store.old page.old l
-        → KeepsAll w.index store.old store.new page.old page.new l }
+    ensures kept { (l : Loop) → IsSound w.index store.old page.old l → KeepsAll w.index store.old store.new page.old page.new l }
 {
     let bill = Bill {
         units: 0,
@@ -103,8 +102,7 @@ fn append_to_root(
     ensures native { (l : Loop) (b : Option Bool) → IsSound w.index store.old page.old l → IfOk result (λ o.
         RefinesAt w.index (beside store.old page.old l b) (beside store.new page.new l b) meter.old meter.new
         (λ d s. root_plan (map (number page.old w.index) news.now) s) o) }
-    ensures kept { (l : Loop) → IsSound w.index store.old page.old l
-        → KeepsAll w.index store.old store.new page.old page.new l }
+    ensures kept { (l : Loop) → IsSound w.index store.old page.old l → KeepsAll w.index store.old store.new page.old page.new l }
 {
     let root = root_of(w, page);
     if !may_append(page, w.index, root, news) {
@@ -133,8 +131,7 @@ pub fn dom_append(
         → IfOk result (λ o.
         RefinesAt w.index (beside store.old page.old l b) (beside store.new page.new l b) meter.old meter.new
         (λ d s. means.dom_native names.DomAppend this (seen w.index store.old.cells other.now ∷ []) d s) o) }
-    ensures kept { (l : Loop) → IsSound w.index store.old page.old l
-        → KeepsAll w.index store.old store.new page.old page.new l }
+    ensures kept { (l : Loop) → IsSound w.index store.old page.old l → KeepsAll w.index store.old store.new page.old page.new l }
 {
     match bunch_of(alloc, store, w, page, other)? {
         Some(news) => append_to_root(alloc, &news, store, meter, w, page),

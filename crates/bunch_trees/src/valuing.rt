@@ -1,5 +1,5 @@
 //! `value`.
-ghost use Rattle.std.specs.Prelude.{◌≡◌, ◌≤◌, ◌*◌, ℕ, [], ◌∷◌, Bool, Option, true, codes, cond, IfOk, map};
+ghost use Rattle.std.specs.Prelude.{◌≡◌, ◌≤◌, ℕ, [], ◌∷◌, Bool, Option, true, codes, cond, IfOk, map};
 ghost use Rattle.std.specs.List.{count_by, list_all};
 ghost use Rattle.query_grammar.specs.Finds.{has_number};
 ghost use Rattle.widget_meaning.specs.BunchWrites as means;
@@ -10,19 +10,20 @@ ghost use Rattle.event_loop.specs.declared.around.Loop.{Loop};
 ghost use Rattle.js_image.specs.Held.{IsHeld};
 ghost use Rattle.js_image.specs.Image.{seen};
 ghost use Rattle.page_image.specs.Image.{forest, number, owns};
+ghost use Rattle.native_image.specs.Handed.{IsBunchOf, IsSoundIn, Runs, Writes, numbers, sees};
 ghost use Rattle.native_image.specs.Image.{beside};
-ghost use Rattle.native_image.specs.Refines.{EndsAt, RefinesAt};
+ghost use Rattle.native_image.specs.Refines.{EndsAt};
 ghost use Rattle.native_image.specs.Sound.{AreNodes, IsSound, KeepsAll};
 ghost use Rattle.bunch_trees.specs.Values.{is_closed_tag, value_paid};
 
-use crate::receiver::Receiver;
+use crate::target::Target;
 use crate::writing::{Given, give_all};
 use bunch_attributes::{is_input, is_text_node};
 use code_units::{Memory, Text, is_word};
 use js_image::{Fault, word};
 use js_values::{Meter, NativeOut};
 use native_common::{WidgetId, is_object, read_text, take, text_len};
-use native_image::{Bill, pay_judged, settle, weigh};
+use native_image::{Bill, Receiver, Shared, Widget, pay_judged, settle, weigh};
 use object_store::{Store, Value};
 use page_image::{depth, tag};
 use page_tree::{NodeId, Page};
@@ -114,7 +115,7 @@ fn new_texts(nodes: &[NodeId], text: &Text, w: WidgetId, page: &Page) -> usize
 // The cost is weighed, the nodes get their value, and the Bunch is given back.
 fn value_weighed(
     alloc: Global,
-    bunch: &Receiver,
+    bunch: &Target,
     text: Text,
     store: &mut Store,
     page: &mut Page,
@@ -151,55 +152,54 @@ fn value_weighed(
 
 // Gives a value to all nodes.
 fn give_value(
-    alloc: Global,
     bunch: &Receiver,
     text: Text,
-    store: &mut Store,
+    shared: &mut Shared,
     meter: &mut Meter,
-    page: &mut Page,
+    widget: &Widget,
 ) -> Result<NativeOut, Memory>
-    requires nodes { AreNodes page.old bunch.now.w.index bunch.now.nodes.now }
-    requires held { IsHeld bunch.now.w.index store.old.cells bunch.now.cell }
-    requires sound { (l : Loop) × IsSound bunch.now.w.index store.old page.old l }
-    ensures native { (l : Loop) (b : Option Bool) → IsSound bunch.now.w.index store.old page.old l → IfOk result (λ o.
-        RefinesAt bunch.now.w.index (beside store.old page.old l b) (beside store.new page.new l b) meter.old meter.new
-        (λ d s. means.set_value (map (number page.old bunch.now.w.index) bunch.now.nodes.now) text
-        (seen bunch.now.w.index store.old.cells (Value.Ref bunch.now.cell)) s) o) }
-    ensures kept { (l : Loop) → IsSound bunch.now.w.index store.old page.old l
-        → KeepsAll bunch.now.w.index store.old store.new page.old page.new l }
+    requires bunch { IsBunchOf shared.old widget.now bunch.now.cell bunch.now.nodes.now }
+    requires sound { IsSoundIn shared.old widget.now }
+    ensures { Writes shared.old shared.new widget.now widget.now meter.old meter.new (λ d s. means.set_value
+        (numbers shared.old widget.now bunch.now.nodes.now) text
+        (sees shared.old widget.now (Value.Ref bunch.now.cell)) s) result }
 {
-    if !all_take(bunch.nodes, &text, bunch.w, page) {
+    if !all_take(bunch.nodes, &text, widget.id, &shared.page) {
         return Ok(NativeOut::Throw(Fault::E10));
     }
+    let target = Target {
+        w: widget.id,
+        cell: bunch.cell,
+        nodes: bunch.nodes,
+    };
     match take(meter, bunch.nodes.len()) {
-        Ok(()) => value_weighed(alloc, bunch, text, store, page),
+        Ok(()) => value_weighed(
+            shared.alloc,
+            &target,
+            text,
+            &mut shared.store,
+            &mut shared.page,
+        ),
         Err(_) => Ok(NativeOut::OutOfFuel),
     }
 }
 
 /// `value(v)`.
 pub fn set_value(
-    alloc: Global,
     bunch: &Receiver,
     value: &Value,
-    store: &mut Store,
+    shared: &mut Shared,
     meter: &mut Meter,
-    page: &mut Page,
+    widget: &Widget,
 ) -> Result<NativeOut, Memory>
-    requires nodes { AreNodes page.old bunch.now.w.index bunch.now.nodes.now }
-    requires held { IsHeld bunch.now.w.index store.old.cells bunch.now.cell }
-    requires sound { (l : Loop) × IsSound bunch.now.w.index store.old page.old l }
-    ensures native { (l : Loop) (b : Option Bool) → IsSound bunch.now.w.index store.old page.old l → IfOk result (λ o.
-        RefinesAt bunch.now.w.index (beside store.old page.old l b) (beside store.new page.new l b) meter.old meter.new
-        (λ d s. means.write_method names.SetValue (map (number page.old bunch.now.w.index) bunch.now.nodes.now)
-        (seen bunch.now.w.index store.old.cells (Value.Ref bunch.now.cell))
-        (seen bunch.now.w.index store.old.cells value.now ∷ []) d s) o) }
-    ensures kept { (l : Loop) → IsSound bunch.now.w.index store.old page.old l
-        → KeepsAll bunch.now.w.index store.old store.new page.old page.new l }
+    requires bunch { IsBunchOf shared.old widget.now bunch.now.cell bunch.now.nodes.now }
+    requires sound { IsSoundIn shared.old widget.now }
+    ensures { Runs shared.old shared.new widget.now widget.now meter.old meter.new names.SetValue
+        bunch.now.cell bunch.now.nodes.now (value.now ∷ []) result }
 {
     if is_object(value) {
         return Ok(NativeOut::Throw(Fault::E4));
     }
-    let text = read_text(alloc, value)?;
-    give_value(alloc, bunch, text, store, meter, page)
+    let text = read_text(shared.alloc, value)?;
+    give_value(bunch, text, shared, meter, widget)
 }

@@ -51,8 +51,7 @@ fn put_text(
     requires some { 0 < length text }
     ensures done { OnOk result
         (Changes w.index store.old store.new page.old page.new (with_text_node (number page.old w.index node) text)) }
-    ensures kept { (l : Loop) → HoldsOwn w.index store.old page.old l
-        → KeepsAll w.index store.old store.new page.old page.new l }
+    ensures kept { (l : Loop) → HoldsOwn w.index store.old page.old l → KeepsAll w.index store.old store.new page.old page.new l }
 {
     let plain = text_tree(text);
     let id = add_tree(alloc, store, page, w, &plain)?;
@@ -72,8 +71,7 @@ fn fill(
     requires own { owns page.old w.index node ≡ true }
     ensures done { OnOk result (Changes w.index store.old store.new page.old page.new
         (λ s. with_text_node (number page.old w.index node) text.now (emptied s (number page.old w.index node)))) }
-    ensures kept { (l : Loop) → HoldsOwn w.index store.old page.old l
-        → KeepsAll w.index store.old store.new page.old page.new l }
+    ensures kept { (l : Loop) → HoldsOwn w.index store.old page.old l → KeepsAll w.index store.old store.new page.old page.new l }
 {
     empty(page, w.index, node);
     if text.units().is_empty() {
@@ -97,8 +95,7 @@ fn give(
     requires name { given.now.name ≡ codes "value" }
     ensures done { OnOk result (Changes w.index store.old store.new page.old page.new
         (λ s. valued given.now.text s (number page.old w.index node))) }
-    ensures kept { (l : Loop) → HoldsOwn w.index store.old page.old l
-        → KeepsAll w.index store.old store.new page.old page.new l }
+    ensures kept { (l : Loop) → HoldsOwn w.index store.old page.old l → KeepsAll w.index store.old store.new page.old page.new l }
 {
     if is_input(node, w, page) {
         let text = given.text.share()?;
@@ -126,8 +123,7 @@ pub(crate) fn give_all(
     requires name { given.now.name ≡ codes "value" }
     ensures done { OnOk result (Changes w.index store.old store.new page.old page.new
         (λ s. fold (valued given.now.text) s (map (number page.old w.index) nodes.now))) }
-    ensures kept { (l : Loop) → HoldsOwn w.index store.old page.old l
-        → KeepsAll w.index store.old store.new page.old page.new l }
+    ensures kept { (l : Loop) → HoldsOwn w.index store.old page.old l → KeepsAll w.index store.old store.new page.old page.new l }
 {
     'each: for node in nodes {
         give(alloc, store, page, w, *node, given)?;

@@ -1,6 +1,7 @@
 -- What the natives of this crate are in the meaning.
 use Rattle.std.proofs.Common.{◌≡◌, ℕ, zero, suc, Bool, List, [], ◌∷◌, true, false, refl, sym, ap, ◌∙◌, subst, Option, None, Some, if◌then◌else◌, ◌||◌}
-use Rattle.std.specs.Prelude.{IfOk, Result, nat_eq, slice_get, unwrap_or}
+use Rattle.std.specs.Prelude.{Result, nat_eq, slice_get, unwrap_or}
+use Rattle.code_units.specs.declared.memory.Memory.{Memory}
 use Rattle.std.specs.Option.{option_and_then}
 use Rattle.permitted_table.specs.declared.native.NativeId.{NativeId}
 use Rattle.permitted_table.specs.declared.native.NativeId.TheVariants as native
@@ -32,8 +33,9 @@ use Rattle.widget_meaning.specs.Dispatch.{bubble}
 use Rattle.widget_meaning.specs.OwnState as state
 use Rattle.widget_meaning.specs.OwnState.{State}
 use Rattle.widget_meaning.specs.Costs.{or_throw, throw}
-use Rattle.native_image.specs.Image.{Parts}
-use Rattle.native_image.specs.Refines.{RefinesAt}
+use Rattle.native_image.specs.Handed.{Runs}
+use Rattle.native_image.specs.declared.handed.Shared.{Shared}
+use Rattle.native_image.specs.declared.handed.Widget.{Widget}
 use Rattle.bunch_write.specs.Part.{is_part}
 
 not_here : false ≡ true → ⊥
@@ -57,14 +59,8 @@ arg_fine w cells vs n v e h = subst (IsFine w cells) (sym e) (at vs n h)
     at (u ∷ vs) (suc n) h = at vs n h.1
 
 -- one method
-module _ (w : ℕ) (old new : Parts) (had has : Fuel) (ns : List ℕ) (b u v : meaning.Value) where
-  pub of_method : {E : Type 0} (r : Result NativeOut E) (m k : WriteNative) → m ≡ k → IfOk r (λ o. RefinesAt w old new had has (λ d s. write_method k ns b (u ∷ v ∷ []) d s) o) → IfOk r (λ o. RefinesAt w old new had has (λ d s. write_method m ns b (u ∷ v ∷ []) d s) o)
-  of_method r m k e h = subst (λ q. IfOk r (λ o. RefinesAt w old new had has (λ d s. write_method q ns b (u ∷ v ∷ []) d s) o)) (sym e) h
-
-  pub at_method : (o : NativeOut) (m k : WriteNative) → m ≡ k → RefinesAt w old new had has (λ d s. write_method k ns b (u ∷ v ∷ []) d s) o → RefinesAt w old new had has (λ d s. write_method m ns b (u ∷ v ∷ []) d s) o
-  at_method o m k e h = subst (λ q. RefinesAt w old new had has (λ d s. write_method q ns b (u ∷ v ∷ []) d s) o) (sym e) h
-
--- ## A native of this crate
+pub of_method : (h new : Shared) (v u : Widget) (had has : Fuel) (cell : ℕ) (ns : List ℕ) (first second : Value) (r : Result NativeOut Memory) (m k : WriteNative) → m ≡ k → Runs h new v u had has k cell ns (first ∷ second ∷ []) r → Runs h new v u had has m cell ns (first ∷ second ∷ []) r
+of_method h new v u had has cell ns first second r m k e x = subst (λ q. Runs h new v u had has q cell ns (first ∷ second ∷ []) r) (sym e) x
 
 module _ (which : NativeId) (this : Option meaning.Value) (vs : List meaning.Value) (u v : meaning.Value) (first : meaning.nth 0 vs ≡ u) (second : meaning.nth 1 vs ≡ v) (d : ℕ) (s : State) where
   abbrev run : NativeId → Plan

@@ -1,16 +1,12 @@
 //! The one call of this crate.
-ghost use Rattle.std.specs.Prelude.{◌≡◌, [], ◌∷◌, Bool, Option, true, IfOk, map};
-ghost use Rattle.widget_meaning.specs.BunchWrites.{write_method};
+ghost use Rattle.std.specs.Prelude.{◌≡◌, [], ◌∷◌, true};
 ghost use Rattle.widget_meaning.specs.Natives.{run_native};
-ghost use Rattle.js_image.specs.Held.{AreFine, IsFine, IsHeld};
-ghost use Rattle.js_image.specs.Image.{all_seen, seen};
+ghost use Rattle.js_image.specs.Held.{AreFine, IsFine};
+ghost use Rattle.js_image.specs.Image.{all_seen};
 ghost use Rattle.js_image.specs.Reads.{cell_in};
 ghost use Rattle.native_common.specs.Receivers.{IsReceiver, receiver};
-ghost use Rattle.page_image.specs.Image.{number};
-ghost use Rattle.native_image.specs.Image.{beside};
-ghost use Rattle.native_image.specs.Refines.{RefinesAt};
-ghost use Rattle.native_image.specs.Sound.{AreNodes, IsSound, KeepsAll};
 ghost use Rattle.bunch_write.specs.Part.{is_part};
+ghost use Rattle.native_image.specs.Handed.{IsBunchOf, IsSoundIn, Runs, Writes};
 
 use crate::each::{bubble, each};
 use crate::making::{dom_tag, dom_text};
@@ -19,16 +15,13 @@ use bunch_attributes::{
     blur, fire, focus, hush, listen, protect, set_check, set_class, set_enabled, set_mark,
     set_style, set_title,
 };
-use bunch_trees::{Receiver, append, dom_append, explode, set_value};
+use bunch_trees::{append, dom_append, explode, set_value};
 use code_units::Memory;
-use event_loop::Loop;
 use js_image::Fault;
 use js_values::{Meter, NativeOut};
-use native_common::{WidgetId, nth};
-use native_image::receiver_of;
-use object_store::{CellId, DomNative, NativeId, Store, Value, WriteNative};
-use page_tree::{NodeId, Page};
-use std::alloc::Global;
+use native_common::nth;
+use native_image::{Receiver, Shared, Widget, receiver_of};
+use object_store::{CellId, DomNative, NativeId, Value, WriteNative};
 
 /// A native of this crate, called by a widget: what the meaning gives at its image, for every
 /// receiver and all arguments. The Global cell as receiver stands for none. The native's unit was
@@ -36,49 +29,73 @@ use std::alloc::Global;
 /// judged before any change. After `Memory` too, all that the widget holds is its own, and others have
 /// what they had.
 pub fn call(
-    alloc: Global,
     which: NativeId,
     this: &Value,
     args: &[Value],
-    store: &mut Store,
+    shared: &mut Shared,
     meter: &mut Meter,
-    w: WidgetId,
-    page: &mut Page,
-    around: &mut Loop,
-    bubbled: &mut Option<bool>,
+    widget: &mut Widget,
 ) -> Result<NativeOut, Memory>
     requires part { is_part which ≡ true }
-    requires sound { IsSound w.index store.old page.old around.old }
-    requires receiver { IsReceiver w.index store.old.cells this.now }
-    requires args { AreFine w.index store.old.cells args.now }
-    ensures native { IfOk result (λ o. RefinesAt w.index
-        (beside store.old page.old around.old bubbled.old)
-        (beside store.new page.new around.new bubbled.new) meter.old meter.new
-        (run_native which (receiver w.index store.old.cells this.now)
-        (all_seen w.index store.old.cells args.now)) o) }
-    ensures kept { KeepsAll w.index store.old store.new page.old page.new around.new }
+    requires sound { IsSoundIn shared.old widget.old }
+    requires receiver { IsReceiver widget.old.id.index shared.old.store.cells this.now }
+    requires args { AreFine widget.old.id.index shared.old.store.cells args.now }
+    ensures { Writes shared.old shared.new widget.old widget.new meter.old meter.new
+        (run_native which (receiver widget.old.id.index shared.old.store.cells this.now)
+        (all_seen widget.old.id.index shared.old.store.cells args.now)) result }
 {
     let absent = Value::Undefined;
     let first = nth(args, 0, &absent);
     let second = nth(args, 1, &absent);
     match which {
-        NativeId::Bubble => Ok(bubble(bubbled)),
+        NativeId::Bubble => Ok(bubble(&mut widget.bubbled)),
         NativeId::Dom(native) => match native {
-            DomNative::DomTag => dom_tag(alloc, first, second, store, w, page),
-            DomNative::DomText => dom_text(alloc, first, store, w, page),
-            DomNative::DomAppend => dom_append(alloc, first, store, meter, w, page),
+            DomNative::DomTag => dom_tag(
+                shared.alloc,
+                first,
+                second,
+                &mut shared.store,
+                widget.id,
+                &mut shared.page,
+            ),
+            DomNative::DomText => dom_text(
+                shared.alloc,
+                first,
+                &mut shared.store,
+                widget.id,
+                &mut shared.page,
+            ),
+            DomNative::DomAppend => dom_append(
+                shared.alloc,
+                first,
+                &mut shared.store,
+                meter,
+                widget.id,
+                &mut shared.page,
+            ),
             DomNative::DomQuery => unreachable!(),
         },
-        NativeId::Read(_) => explode(alloc, this, store, meter, w, page),
-        NativeId::Write(method) => match receiver_of(alloc, store, w, page, this)? {
-            Some(list) => match cell_of(this) {
-                Some(cell) => change(
-                    alloc, method, &list, cell, first, second, store, meter, w, page, around,
-                ),
+        NativeId::Read(_) => explode(
+            shared.alloc,
+            this,
+            &mut shared.store,
+            meter,
+            widget.id,
+            &shared.page,
+        ),
+        NativeId::Write(method) => {
+            let list = receiver_of(shared.alloc, &shared.store, widget.id, &shared.page, this)?;
+            match list {
+                Some(list) => match cell_of(this) {
+                    Some(cell) => {
+                        let bunch = Receiver { cell, nodes: &list };
+                        change(method, &bunch, first, second, shared, meter, widget)
+                    }
+                    None => Ok(NativeOut::Throw(Fault::E3)),
+                },
                 None => Ok(NativeOut::Throw(Fault::E3)),
-            },
-            None => Ok(NativeOut::Throw(Fault::E3)),
-        },
+            }
+        }
         _ => unreachable!(),
     }
 }
@@ -95,55 +112,39 @@ fn cell_of(v: &Value) -> Option<CellId>
 
 // A method on the nodes of its receiver, with its first two arguments.
 fn change(
-    alloc: Global,
     method: WriteNative,
-    list: &[NodeId],
-    this: CellId,
+    bunch: &Receiver,
     first: &Value,
     second: &Value,
-    store: &mut Store,
+    shared: &mut Shared,
     meter: &mut Meter,
-    w: WidgetId,
-    page: &mut Page,
-    around: &mut Loop,
+    widget: &mut Widget,
 ) -> Result<NativeOut, Memory>
-    requires nodes { AreNodes page.old w.index list.now }
-    requires held { IsHeld w.index store.old.cells this }
-    requires first { IsFine w.index store.old.cells first.now }
-    requires second { IsFine w.index store.old.cells second.now }
-    requires sound { IsSound w.index store.old page.old around.old }
-    ensures native { (b : Option Bool) → IfOk result (λ o. RefinesAt w.index
-        (beside store.old page.old around.old b) (beside store.new page.new around.new b) meter.old meter.new
-        (λ d s. write_method method (map (number page.old w.index) list.now)
-        (seen w.index store.old.cells (Value.Ref this))
-        (seen w.index store.old.cells first.now ∷ seen w.index store.old.cells second.now ∷ []) d s) o) }
-    ensures kept { KeepsAll w.index store.old store.new page.old page.new around.new }
+    requires bunch { IsBunchOf shared.old widget.old bunch.now.cell bunch.now.nodes.now }
+    requires first { IsFine widget.old.id.index shared.old.store.cells first.now }
+    requires second { IsFine widget.old.id.index shared.old.store.cells second.now }
+    requires sound { IsSoundIn shared.old widget.old }
+    ensures { Runs shared.old shared.new widget.old widget.new meter.old meter.new method
+        bunch.now.cell bunch.now.nodes.now (first.now ∷ second.now ∷ []) result }
 {
-    let bunch = Receiver {
-        w,
-        cell: this,
-        nodes: list,
-    };
     match method {
-        WriteNative::Append => append(alloc, &bunch, first, store, meter, page),
-        WriteNative::Remove => remove(alloc, list, this, store, meter, w, page),
-        WriteNative::Empty => Ok(empty(list, this, store, meter, w, page)),
-        WriteNative::Replace => replace(alloc, list, first, this, store, meter, w, page),
-        WriteNative::SetValue => set_value(alloc, &bunch, first, store, meter, page),
-        WriteNative::SetStyle => set_style(alloc, list, first, second, this, store, meter, w, page),
-        WriteNative::SetClass => set_class(alloc, list, first, this, store, meter, w, page),
-        WriteNative::SetTitle => set_title(alloc, list, first, this, store, meter, w, page),
-        WriteNative::SetCheck => set_check(alloc, list, first, this, store, meter, w, page),
-        WriteNative::SetEnabled => set_enabled(alloc, list, first, this, store, meter, w, page),
-        WriteNative::Focus => Ok(focus(list, this, store, meter, w, page, around)),
-        WriteNative::Blur => Ok(blur(list, this, store, meter, w, page, around)),
-        WriteNative::On => listen(
-            alloc, list, first, second, this, store, meter, w, page, around,
-        ),
-        WriteNative::Off => hush(alloc, list, first, this, store, meter, w, page, around),
-        WriteNative::Fire => fire(alloc, list, first, this, store, meter, w, page, around),
-        WriteNative::Each => each(alloc, list, first, this, store, meter, w, page, around),
-        WriteNative::SetMark => set_mark(alloc, list, first, this, store, meter, w, page, around),
-        WriteNative::Protect => protect(alloc, list, this, store, meter, w, page, around),
+        WriteNative::Append => append(bunch, first, shared, meter, widget),
+        WriteNative::Remove => remove(bunch, shared, meter, widget),
+        WriteNative::Empty => Ok(empty(bunch, shared, meter, widget)),
+        WriteNative::Replace => replace(bunch, first, shared, meter, widget),
+        WriteNative::SetValue => set_value(bunch, first, shared, meter, widget),
+        WriteNative::SetStyle => set_style(bunch, first, second, shared, meter, widget),
+        WriteNative::SetClass => set_class(bunch, first, shared, meter, widget),
+        WriteNative::SetTitle => set_title(bunch, first, shared, meter, widget),
+        WriteNative::SetCheck => set_check(bunch, first, shared, meter, widget),
+        WriteNative::SetEnabled => set_enabled(bunch, first, shared, meter, widget),
+        WriteNative::Focus => Ok(focus(bunch, shared, meter, widget)),
+        WriteNative::Blur => Ok(blur(bunch, shared, meter, widget)),
+        WriteNative::On => listen(bunch, first, second, shared, meter, widget),
+        WriteNative::Off => hush(bunch, first, shared, meter, widget),
+        WriteNative::Fire => fire(bunch, first, shared, meter, widget),
+        WriteNative::Each => each(bunch, first, shared, meter, widget),
+        WriteNative::SetMark => set_mark(bunch, first, shared, meter, widget),
+        WriteNative::Protect => protect(bunch, shared, meter, widget),
     }
 }

@@ -1,6 +1,5 @@
 //! `each`, and `bubble`.
-ghost use Rattle.std.specs.Prelude.{ℕ, [], ◌∷◌, Bool, Option, Some, IfOk, map};
-ghost use Rattle.widget_meaning.specs.BunchWrites as means;
+ghost use Rattle.std.specs.Prelude.{ℕ, [], ◌∷◌, Bool, Option, IfOk, map};
 ghost use Rattle.widget_meaning.specs.Dispatch as dispatch;
 ghost use Rattle.permitted_table.specs.declared.native.WriteNative.TheVariants as names;
 ghost use Rattle.event_loop.specs.declared.around.Loop.{Loop};
@@ -9,6 +8,7 @@ ghost use Rattle.js_image.specs.Image.{seen};
 ghost use Rattle.js_values.specs.Fuel.{Fuel};
 ghost use Rattle.page_image.specs.Image.{number};
 ghost use Rattle.store_cells.specs.Cells.{Cells};
+ghost use Rattle.native_image.specs.Handed.{IsBunchOf, IsSoundIn, Runs};
 ghost use Rattle.native_image.specs.Image.{beside};
 ghost use Rattle.native_image.specs.Refines.{EndsAt, RefinesAt};
 ghost use Rattle.native_image.specs.Sound.{AreNodes, IsSound, KeepsAll};
@@ -20,7 +20,7 @@ use event_loop::Loop;
 use js_image::Fault;
 use js_values::{Meter, NativeOut, Plan};
 use native_common::{WidgetId, take};
-use native_image::{Bill, make_bunches, settle, weigh};
+use native_image::{Bill, Receiver, Shared, Widget, make_bunches, settle, weigh};
 use object_store::{CellId, Store, Value};
 use page_tree::{NodeId, Page};
 use std::alloc::Global;
@@ -70,31 +70,30 @@ fn calls(
 /// `each(f)`: a call with a Bunch of each node, all made before the first call; then the Bunch is
 /// given back.
 pub(crate) fn each(
-    alloc: Global,
-    list: &[NodeId],
+    bunch: &Receiver,
     func: &Value,
-    this: CellId,
-    store: &mut Store,
+    shared: &mut Shared,
     meter: &mut Meter,
-    w: WidgetId,
-    page: &Page,
-    around: &Loop,
+    widget: &Widget,
 ) -> Result<NativeOut, Memory>
-    requires nodes { AreNodes page.now w.index list.now }
-    requires held { IsHeld w.index store.old.cells this }
-    requires func { IsFine w.index store.old.cells func.now }
-    requires sound { IsSound w.index store.old page.now around.now }
-    ensures native { (b : Option Bool) → IfOk result (λ o.
-        RefinesAt w.index (beside store.old page.now around.now b)
-        (beside store.new page.now around.now b) meter.old meter.new
-        (λ d s. means.write_method names.Each (map (number page.now w.index) list.now)
-        (seen w.index store.old.cells (Value.Ref this))
-        (seen w.index store.old.cells func.now ∷ []) d s) o) }
-    ensures kept { KeepsAll w.index store.old store.new page.now page.now around.now }
+    requires bunch { IsBunchOf shared.old widget.now bunch.now.cell bunch.now.nodes.now }
+    requires func { IsFine widget.now.id.index shared.old.store.cells func.now }
+    requires sound { IsSoundIn shared.old widget.now }
+    ensures { Runs shared.old shared.new widget.now widget.now meter.old meter.new names.Each
+        bunch.now.cell bunch.now.nodes.now (func.now ∷ []) result }
 {
-    match function_of(store, func) {
-        Some(func) => match take(meter, list.len()) {
-            Ok(()) => calls(alloc, list, func, this, store, w, page, around),
+    match function_of(&shared.store, func) {
+        Some(func) => match take(meter, bunch.nodes.len()) {
+            Ok(()) => calls(
+                shared.alloc,
+                bunch.nodes,
+                func,
+                bunch.cell,
+                &mut shared.store,
+                widget.id,
+                &shared.page,
+                &widget.around,
+            ),
             Err(_) => Ok(NativeOut::OutOfFuel),
         },
         None => Ok(NativeOut::Throw(Fault::E4)),

@@ -36,12 +36,10 @@ pub(crate) fn dom_text(
     page: &mut Page,
 ) -> Result<NativeOut, Memory>
     requires { (l : Loop) × IsSound w.index store.old page.old l }
-    ensures native { (l : Loop) (b : Option Bool) (f : Fuel) (this : Option Meant)
-        → IsSound w.index store.old page.old l
+    ensures native { (l : Loop) (b : Option Bool) (f : Fuel) (this : Option Meant) → IsSound w.index store.old page.old l
         → IfOk result (λ o. RefinesAt w.index (beside store.old page.old l b) (beside store.new page.new l b) f f
         (λ d s. means.dom_native names.DomText this (seen w.index store.old.cells value.now ∷ []) d s) o) }
-    ensures kept { (l : Loop) → IsSound w.index store.old page.old l
-        → KeepsAll w.index store.old store.new page.old page.new l }
+    ensures kept { (l : Loop) → IsSound w.index store.old page.old l → KeepsAll w.index store.old store.new page.old page.new l }
 {
     if is_object(value) {
         return Ok(NativeOut::Throw(Fault::E4));
@@ -123,13 +121,11 @@ pub(crate) fn dom_tag(
     page: &mut Page,
 ) -> Result<NativeOut, Memory>
     requires { (l : Loop) × IsSound w.index store.old page.old l }
-    ensures native { (l : Loop) (b : Option Bool) (f : Fuel) (this : Option Meant)
-        → IsSound w.index store.old page.old l
+    ensures native { (l : Loop) (b : Option Bool) (f : Fuel) (this : Option Meant) → IsSound w.index store.old page.old l
         → IfOk result (λ o. RefinesAt w.index (beside store.old page.old l b) (beside store.new page.new l b) f f
         (λ d s. means.dom_native names.DomTag this
         (seen w.index store.old.cells name.now ∷ seen w.index store.old.cells kind.now ∷ []) d s) o) }
-    ensures kept { (l : Loop) → IsSound w.index store.old page.old l
-        → KeepsAll w.index store.old store.new page.old page.new l }
+    ensures kept { (l : Loop) → IsSound w.index store.old page.old l → KeepsAll w.index store.old store.new page.old page.new l }
 {
     if either_object(name, kind) {
         return Ok(NativeOut::Throw(Fault::E4));

@@ -21,9 +21,9 @@ use Rattle.life_laws.proofs.Ends.{cut, cut_from, idle, over, over_from}
 use Rattle.pick_laws.specs.declared.entry.Picked.{Picked}
 use Rattle.pick_laws.specs.declared.entry.Picked.TheVariants as picked
 use Rattle.pick_laws.specs.Picks.{Picks}
-use Rattle.turn_returns.specs.declared.turn.Shared.{Shared}
+use Rattle.native_image.specs.declared.handed.Shared.{Shared}
 use Rattle.turn_returns.specs.declared.turn.Turn.{Turn}
-use Rattle.turn_returns.specs.declared.turn.Widget.{Widget}
+use Rattle.native_image.specs.declared.handed.Widget.{Widget}
 use Rattle.turn_steps.specs.declared.turn.TurnEnd.{TurnEnd}
 use Rattle.turn_steps.specs.declared.turn.TurnEnd.TheVariants as ended
 use Rattle.js_steps.specs.declared.answer.Stop.TheVariants as stop
@@ -90,7 +90,7 @@ end_counted (Stopped c) s o = refl
 end_counted OutOfFuel s o = refl
 
 -- what a run of the turn keeps, as all calls for a life do
-pub keeps_ran : (h m : Shared) (a b : Life) → KeepsTurn (forests h) a.widget.number h.store m.store h.page m.page b.widget.around → b.widget.number ≡ a.widget.number → m.codes ≡ h.codes → b.slot ≡ a.slot → b.accepted ≡ a.accepted → KeepsLife a.widget.number h m a b
+pub keeps_ran : (h m : Shared) (a b : Life) → KeepsTurn (forests h) a.widget.id.index h.store m.store h.page m.page b.widget.around → b.widget.id.index ≡ a.widget.id.index → m.codes ≡ h.codes → b.slot ≡ a.slot → b.accepted ≡ a.accepted → KeepsLife a.widget.id.index h m a b
 keeps_ran h m a b keeps number codes slot accepted = record {
   codes = codes;
   cells = record { confined = keeps.confined; grows = keeps.grows; others = keeps.others; others_grow = keeps.others_grow; others_confined = keeps.others_confined };
@@ -102,10 +102,10 @@ keeps_ran h m a b keeps number codes slot accepted = record {
   accepted = accepted;
 }
 
-module _ (h m : Shared) (a : Life) (t : Turn) (u : Widget) (units : ℕ) (some : 0 < units) (keeps : KeepsTurn (forests h) a.widget.number h.store m.store h.page m.page u.around)
-    (number : u.number ≡ a.widget.number) (codes : m.codes ≡ h.codes) (sound : FineWidget m u) where
+module _ (h m : Shared) (a : Life) (t : Turn) (u : Widget) (units : ℕ) (some : 0 < units) (keeps : KeepsTurn (forests h) a.widget.id.index h.store m.store h.page m.page u.around)
+    (number : u.id.index ≡ a.widget.id.index) (codes : m.codes ≡ h.codes) (sound : FineWidget m u) where
   abbrev w : ℕ
-  w = a.widget.number
+  w = a.widget.id.index
 
   -- the life in its turn, before
   abbrev pub running : Life
@@ -116,37 +116,37 @@ module _ (h m : Shared) (a : Life) (t : Turn) (u : Widget) (units : ℕ) (some :
   moved = record a { widget = u }
 
   -- what the run and the end of the turn keep
-  pub keeps_close : (k : Shared) (b : Life) → KeepsLife u.number m k moved b → KeepsLife w h k a b
+  pub keeps_close : (k : Shared) (b : Life) → KeepsLife u.id.index m k moved b → KeepsLife w h k a b
   keeps_close k b kept = keeps_both w h m k a moved b (keeps_ran h m a moved keeps number codes refl refl) (subst (λ i. KeepsLife i m k moved b) number kept)
 
   same_trees : trees_in m ≡ trees_in h
   same_trees = ap (λ (cs : Vec Code Global). trees_of cs.items) codes
 
-  same_works : works_of m u.number moved ≡ works_of h w running
+  same_works : works_of m u.id.index moved ≡ works_of h w running
   same_works = ap (λ fs. map (work_of fs) a.queue.items) same_trees
 
   module _ (fine : FineLife h w running) where
-    lib_here : HasLib u.number m.store moved
+    lib_here : HasLib u.id.index m.store moved
     lib_here = let l : HasLib w m.store a = lib_stays w h.store m.store a keeps.grows (record { held = fine.lib.held; first = fine.lib.first }) in
         subst (λ i. HasLib i m.store moved) (sym number) (record { held = l.held; first = l.first })
 
     works_here : AllByRecursion (FineWork (trees_in m)) a.queue.items
     works_here = subst (λ fs. AllByRecursion (FineWork fs) a.queue.items) (sym same_trees) fine.works
 
-    room_here : a.records.turns + (a.records.missed + (a.records.gone + potentials (works_of m u.number moved))) < 2 ^ 32
+    room_here : a.records.turns + (a.records.missed + (a.records.gone + potentials (works_of m u.id.index moved))) < 2 ^ 32
     room_here = subst (λ is. a.records.turns + (a.records.missed + (a.records.gone + potentials is)) < 2 ^ 32) (sym same_works) fine.counts.room
 
     -- The turn is cut.
-    module _ (s : Turn) (at : IsCutAt units h m a.widget u t s (fixed (own_of h w running)) (outside a)) (held : FineTurnOf m u.number s) where
+    module _ (s : Turn) (at : IsCutAt units h m a.widget u t s (fixed (own_of h w running)) (outside a)) (held : FineTurnOf m u.id.index s) where
       abbrev pub cut_life : Life
       cut_life = record a { widget = u; turn = Some s }
 
-      is_cut : IsCut units (life_seen h w running) (life_seen m u.number cut_life)
+      is_cut : IsCut units (life_seen h w running) (life_seen m u.id.index cut_life)
       is_cut =
-          cut units (t.left - s.left) (life_seen h w running) (life_seen h w running) (life_seen m u.number cut_life) (going_of h w running t) (going_of m u.number cut_life s)
+          cut units (t.left - s.left) (life_seen h w running) (life_seen h w running) (life_seen m u.id.index cut_life) (going_of h w running t) (going_of m u.id.index cut_life s)
           (state_in (outside a) m u s.calls.dispatches.items) refl (same_none (life_seen h w running)) refl refl same_works at.runs fine.turn.left some at.enough at.out_of_fuel
 
-      fine_cut : FineLife m u.number cut_life
+      fine_cut : FineLife m u.id.index cut_life
       fine_cut = record {
         number = refl;
         confined = sound.confined;
@@ -169,7 +169,7 @@ module _ (h m : Shared) (a : Life) (t : Turn) (u : Widget) (units : ℕ) (some :
 
     -- The turn is over.
     module _ (s : Turn) (how : TurnEnd) (left : ℕ) (at : IsEndedAt units h m a.widget u t s (fixed (own_of h w running)) (outside a) how left) (rest : a.turn ≡ None) where
-      pub fine_spent : FineLife m u.number (spent_to left moved)
+      pub fine_spent : FineLife m u.id.index (spent_to left moved)
       fine_spent =
           let none : held_back a.turn ≡ 0 = ap held_back rest in
           record {
@@ -178,28 +178,28 @@ module _ (h m : Shared) (a : Life) (t : Turn) (u : Widget) (units : ℕ) (some :
             sound = sound.sound;
             lib = record { held = lib_here.held; first = lib_here.first };
             works = works_here;
-            turn = subst (λ (o : Option Turn). IfSome o (FineTurn (trees_in m) u.number m.store m.page a.grant)) (sym rest) tt;
+            turn = subst (λ (o : Option Turn). IfSome o (FineTurn (trees_in m) u.id.index m.store m.page a.grant)) (sym rest) tt;
             counts = record { grant = fine.counts.grant; spent = omega (arith, none, fine.counts.spent, fine.counts.grant); room = room_here };
           }
 
-      module _ (k : Shared) (b : Life) (kept : KeepsLife u.number m k moved b) (over_fine : FineLife k u.number b) (over_rest : b.turn ≡ None) (queue : b.queue ≡ a.queue)
-          (own : (o : State) → o.own ≡ own_of m u.number moved → own_of k u.number b ≡ end_turn (end_of u.number m.store.cells how) o (own_of m u.number (spent_to left moved))) where
-        end_works : works_of k u.number b ≡ works_of h w running
+      module _ (k : Shared) (b : Life) (kept : KeepsLife u.id.index m k moved b) (over_fine : FineLife k u.id.index b) (over_rest : b.turn ≡ None) (queue : b.queue ≡ a.queue)
+          (own : (o : State) → o.own ≡ own_of m u.id.index moved → own_of k u.id.index b ≡ end_turn (end_of u.id.index m.store.cells how) o (own_of m u.id.index (spent_to left moved))) where
+        end_works : works_of k u.id.index b ≡ works_of h w running
         end_works = (λ j. map (work_of (trees_of (kept.codes j).items)) (queue j).items) ∙ same_works
 
-        end_own : own_of k u.number b ≡ end_turn (end_of u.number m.store.cells how) (state_in (outside a) m u at.dispatches) (own_of m u.number (spent_to left moved))
+        end_own : own_of k u.id.index b ≡ end_turn (end_of u.id.index m.store.cells how) (state_in (outside a) m u at.dispatches) (own_of m u.id.index (spent_to left moved))
         end_own = own (state_in (outside a) m u at.dispatches) refl
 
-        is_over : IsOver units (life_seen h w running) (life_seen k u.number b)
+        is_over : IsOver units (life_seen h w running) (life_seen k u.id.index b)
         is_over =
-            over units (t.left - left) (life_seen h w running) (life_seen h w running) (life_seen k u.number b) (going_of h w running t)
-            (let y : TurnOf = record { fixed = fixed (own_of h w running); plan = at.last; left = left } in y) (end_of u.number m.store.cells how) (state_in (outside a) m u at.dispatches)
-            (same_none (life_seen h w running)) refl (ap (option_map (going_of k u.number b)) over_rest) end_works at.runs fine.turn.left some at.out end_own
-            (ap (λ (o : OwnState). o.spent) end_own ∙ end_spent (end_of u.number m.store.cells how) (state_in (outside a) m u at.dispatches) (own_of m u.number (spent_to left moved)))
-            (λ e. at.fuel (only_fuel u.number m.store.cells how e))
+            over units (t.left - left) (life_seen h w running) (life_seen h w running) (life_seen k u.id.index b) (going_of h w running t)
+            (let y : TurnOf = record { fixed = fixed (own_of h w running); plan = at.last; left = left } in y) (end_of u.id.index m.store.cells how) (state_in (outside a) m u at.dispatches)
+            (same_none (life_seen h w running)) refl (ap (option_map (going_of k u.id.index b)) over_rest) end_works at.runs fine.turn.left some at.out end_own
+            (ap (λ (o : OwnState). o.spent) end_own ∙ end_spent (end_of u.id.index m.store.cells how) (state_in (outside a) m u at.dispatches) (own_of m u.id.index (spent_to left moved)))
+            (λ e. at.fuel (only_fuel u.id.index m.store.cells how e))
 
         counts : b.records.turns + (b.records.missed + b.records.gone) ≡ a.records.turns + (a.records.missed + a.records.gone)
-        counts = ap counted end_own ∙ end_counted (end_of u.number m.store.cells how) (state_in (outside a) m u at.dispatches) (own_of m u.number (spent_to left moved))
+        counts = ap counted end_own ∙ end_counted (end_of u.id.index m.store.cells how) (state_in (outside a) m u at.dispatches) (own_of m u.id.index (spent_to left moved))
 
         pub over_picks : PicksLife h k w units picked.Ended running b
         over_picks =
@@ -273,5 +273,5 @@ pub ok_on : {T E : Type 0} (Q : Type 0) (r : Result T E) (x : T) → r ≡ Ok x 
 ok_on Q r x e h = subst (λ q. OnOk q Q) e h
 
 -- the turn of a life has no part in what is kept
-pub keeps_turn : (w : ℕ) (h k : Shared) (a c b : Life) → c.widget.number ≡ a.widget.number → c.slot ≡ a.slot → c.accepted ≡ a.accepted → KeepsLife w h k c b → KeepsLife w h k a b
+pub keeps_turn : (w : ℕ) (h k : Shared) (a c b : Life) → c.widget.id.index ≡ a.widget.id.index → c.slot ≡ a.slot → c.accepted ≡ a.accepted → KeepsLife w h k c b → KeepsLife w h k a b
 keeps_turn w h k a c b number slot accepted keeps = record { codes = keeps.codes; cells = keeps.cells; page = keeps.page; host = keeps.host; holds = keeps.holds; number = keeps.number ∙ number; slot = keeps.slot ∙ slot; accepted = keeps.accepted ∙ accepted }

@@ -19,7 +19,7 @@ use Rattle.js_image.proofs.Units.{units_are}
 use Rattle.native_image.specs.Image.{beside}
 use Rattle.native_image.proofs.Joint.{rest, store_lift}
 use Rattle.native_image.proofs.Told.{paid_told}
-use Rattle.turn_returns.specs.declared.turn.Shared.{Shared}
+use Rattle.native_image.specs.declared.handed.Shared.{Shared}
 use Rattle.life_queue.specs.declared.life.Life.{Life}
 use Rattle.life_queue.specs.Lives.{outside, own_of, trees_in}
 use Rattle.life_queue.specs.Fine.{FineLife, FineTurn, KeepsLife}

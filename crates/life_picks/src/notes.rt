@@ -17,9 +17,9 @@ use js_image::{Paid, StopCause, get, has_own, pay_units, word};
 use js_steps::Stop;
 use js_values::to_text;
 use life_queue::Life;
+use native_image::Shared;
 use object_store::{CellId, Store, UNIT_LIMIT, Value};
 use std::alloc::Global;
-use turn_returns::Shared;
 
 // The laws of the store, together.
 fn lawful(store: &Store)

@@ -11,9 +11,10 @@ use crate::notes::note;
 use code_units::Memory;
 use js_flow::Completion;
 use life_queue::{Life, begin_turn};
+use native_image::Shared;
 use pick_laws::Picked;
 use std::alloc::Global;
-use turn_returns::{Shared, Turn};
+use turn_returns::Turn;
 use turn_steps::{Ran, TurnEnd, run_turn};
 
 // The end of a turn: what it spent is counted, a throw that was not caught is noted, and a stop is kept.
@@ -24,22 +25,22 @@ fn close(
     how: TurnEnd,
     left: u32,
 ) -> Result<(), Memory>
-    requires widget { life.old.widget.number < 32 }
+    requires widget { life.old.widget.id.index < 32 }
     requires rest { life.old.turn ≡ None }
     requires left { left ≤ life.old.grant }
-    requires fine { FineLife shared.old life.old.widget.number (spent_to left life.old) }
-    requires held { FineEnd life.old.widget.number shared.old.store.cells how }
-    ensures own { OnOk result ((s : State) → s.own ≡ own_of shared.old life.old.widget.number life.old
-        → own_of shared.new life.old.widget.number life.new
-        ≡ end_turn (end_of life.old.widget.number shared.old.store.cells how) s
-        (own_of shared.old life.old.widget.number (spent_to left life.old))) }
-    ensures fine { OnOk result (FineLife shared.new life.old.widget.number life.new) }
-    ensures kept { KeepsLife life.old.widget.number shared.old shared.new life.old life.new }
+    requires fine { FineLife shared.old life.old.widget.id.index (spent_to left life.old) }
+    requires held { FineEnd life.old.widget.id.index shared.old.store.cells how }
+    ensures own { OnOk result ((s : State) → s.own ≡ own_of shared.old life.old.widget.id.index life.old
+        → own_of shared.new life.old.widget.id.index life.new
+        ≡ end_turn (end_of life.old.widget.id.index shared.old.store.cells how) s
+        (own_of shared.old life.old.widget.id.index (spent_to left life.old))) }
+    ensures fine { OnOk result (FineLife shared.new life.old.widget.id.index life.new) }
+    ensures kept { KeepsLife life.old.widget.id.index shared.old shared.new life.old life.new }
     ensures rest { life.new.turn ≡ None }
     ensures queue { life.new.queue ≡ life.old.queue }
 {
     life.records.spent += u64::from(life.grant - left);
-    let w = life.widget.number;
+    let w = life.widget.id.index;
     match how {
         TurnEnd::Over(Completion::Throw(value)) => note(alloc, shared, w, life, &value),
         TurnEnd::Over(_) => Ok(()),
@@ -59,19 +60,19 @@ fn drop_turn(place: &mut Option<Turn>)
 
 // The turn of a life is carried on in its place, for so many units.
 fn go_on(alloc: Global, shared: &mut Shared, life: &mut Life, units: u32) -> Result<Picked, Memory>
-    requires widget { life.old.widget.number < 32 }
+    requires widget { life.old.widget.id.index < 32 }
     requires units { 0 < units }
     requires running { is_some life.old.turn ≡ true }
-    requires fine { FineLife shared.old life.old.widget.number life.old }
+    requires fine { FineLife shared.old life.old.widget.id.index life.old }
     ensures picked { IfOk result
-        (λ r. PicksLife shared.old shared.new life.old.widget.number units r life.old life.new) }
-    ensures kept { KeepsLife life.old.widget.number shared.old shared.new life.old life.new }
+        (λ r. PicksLife shared.old shared.new life.old.widget.id.index units r life.old life.new) }
+    ensures kept { KeepsLife life.old.widget.id.index shared.old shared.new life.old life.new }
     ensures none { OnErr result (life.new.turn ≡ None) }
 {
     let Some(turn) = &mut life.turn else {
         unreachable!()
     };
-    let came = run_turn(alloc, shared, &mut life.widget, turn, units);
+    let came = run_turn(shared, &mut life.widget, turn, units);
     let left = turn.left;
     let Ok(ran) = came else {
         drop_turn(&mut life.turn);
@@ -100,18 +101,18 @@ pub fn pick_life(
     life: &mut Life,
     units: u32,
 ) -> Result<Picked, Memory>
-    requires widget { life.old.widget.number < 32 }
+    requires widget { life.old.widget.id.index < 32 }
     requires units { 0 < units }
-    requires fine { FineLife shared.old life.old.widget.number life.old }
+    requires fine { FineLife shared.old life.old.widget.id.index life.old }
     ensures picked { IfOk result
-        (λ r. PicksLife shared.old shared.new life.old.widget.number units r life.old life.new) }
-    ensures kept { KeepsLife life.old.widget.number shared.old shared.new life.old life.new }
+        (λ r. PicksLife shared.old shared.new life.old.widget.id.index units r life.old life.new) }
+    ensures kept { KeepsLife life.old.widget.id.index shared.old shared.new life.old life.new }
     ensures none { OnErr result (life.new.turn ≡ None) }
 {
     if life.turn.is_some() {
         return go_on(alloc, shared, life, units);
     }
-    let w = life.widget.number;
+    let w = life.widget.id.index;
     let begun = begin_turn(alloc, shared, w, life)?;
     if begun {
         return go_on(alloc, shared, life, units);

@@ -33,7 +33,7 @@ use Rattle.turn_returns.proofs.Stays.{levels_fine}
 use Rattle.turn_returns.specs.Turns.{bubbled_of, outside_of, turn_image}
 use Rattle.life_queue.specs.declared.life.Life.{Life}
 use Rattle.turn_returns.specs.declared.turn.Turn.{Turn}
-use Rattle.turn_returns.specs.declared.turn.Shared.{Shared}
+use Rattle.native_image.specs.declared.handed.Shared.{Shared}
 use Rattle.life_queue.specs.Lives.{going_of, life_seen, outside, own_of, trees_in, work_of, works_of}
 use Rattle.life_queue.specs.Fine.{FineLife, FineTurn, FineWork, KeepsCells}
 use Rattle.life_queue.proofs.Scripts.{lib_stays}

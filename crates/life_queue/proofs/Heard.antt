@@ -15,7 +15,7 @@ use Rattle.native_image.proofs.Joint.{image_shows}
 use Rattle.turn_dispatch.specs.declared.level.Heard.{Heard}
 use Rattle.turn_dispatch.specs.Levels.{heard_plan}
 use Rattle.life_queue.specs.declared.life.Life.{Life}
-use Rattle.turn_returns.specs.declared.turn.Shared.{Shared}
+use Rattle.native_image.specs.declared.handed.Shared.{Shared}
 use Rattle.life_queue.specs.Lives.{own_of, trees_in}
 use Rattle.life_queue.proofs.Passing.{counted}
 

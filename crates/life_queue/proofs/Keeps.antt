@@ -16,9 +16,9 @@ use Rattle.native_image.proofs.Joint.{holds_grows}
 use Rattle.native_image.proofs.Keeping.{grows_next, holds_page, host_here, page_keeps, page_same, page_then, sound_page}
 use Rattle.object_store.proofs.Growth.{grows_same}
 use Rattle.page_image.specs.Image.{owns}
-use Rattle.turn_returns.specs.declared.turn.Shared.{Shared}
+use Rattle.native_image.specs.declared.handed.Shared.{Shared}
 use Rattle.turn_returns.specs.declared.turn.Turn.{Turn}
-use Rattle.turn_returns.specs.declared.turn.Widget.{Widget}
+use Rattle.native_image.specs.declared.handed.Widget.{Widget}
 use Rattle.life_queue.specs.declared.life.Life.{Life}
 use Rattle.life_queue.specs.Lives.{trees_in}
 use Rattle.life_queue.specs.Fine.{FineLife, FineTurn, KeepsCells, KeepsLife}
@@ -62,7 +62,7 @@ keeps_by w h t q a b cells page host holds same = record {
   page = page;
   host = host;
   holds = subst (λ (v : Widget). HoldsOwn w t q v.around) (sym same.widget) holds;
-  number = ap (λ (v : Widget). v.number) same.widget;
+  number = ap (λ (v : Widget). v.id.index) same.widget;
   slot = same.slot;
   accepted = same.accepted;
 }

@@ -21,7 +21,7 @@ use Rattle.turn_returns.specs.Turns.{turn_image}
 use Rattle.turn_returns.specs.Waiting.{FineLevels}
 use Rattle.life_queue.specs.declared.life.Life.{Life}
 use Rattle.life_queue.specs.declared.life.Work.{Work}
-use Rattle.turn_returns.specs.declared.turn.Shared.{Shared}
+use Rattle.native_image.specs.declared.handed.Shared.{Shared}
 use Rattle.life_queue.specs.Lives.{begun_with, life_seen, life_with, outside, own_of, trees_in, work_of, works_of}
 use Rattle.life_queue.specs.Fine.{FineCounts, FineLife, FineWork, HasLib, held_back, tally}
 use Rattle.life_queue.specs.Taken.{Starts, Takes}
@@ -90,7 +90,7 @@ module _ (h : Shared) (w : ℕ) (a : Life) (s : Cells) (p : Page) where
 
   -- a life that is still sound and has no turn in progress
   pub record Rested : Type 0 where
-    pub number : a.widget.number ≡ w
+    pub number : a.widget.id.index ≡ w
     pub rest : a.turn ≡ None
     pub confined : IsConfined (trees_in h) w s
     pub sound : IsSound w s p a.widget.around

@@ -20,7 +20,7 @@ use Rattle.native_image.specs.Sound.{HoldsOwn}
 use Rattle.native_image.proofs.Joint.{image_shows, page_lift}
 use Rattle.life_laws.specs.Life.{Same, started, waiting}
 use Rattle.life_laws.proofs.Begins.{event_begins, event_unheard}
-use Rattle.turn_returns.specs.declared.turn.Shared.{Shared}
+use Rattle.native_image.specs.declared.handed.Shared.{Shared}
 use Rattle.life_queue.specs.declared.life.Life.{Life}
 use Rattle.life_queue.specs.declared.life.Work.TheVariants as work
 use Rattle.life_queue.specs.Lives.{event_of, life_with, meant_stop, outside, own_of, trees_in, works_of}

@@ -7,7 +7,7 @@ use Rattle.life_laws.specs.Life.{Seen, waiting}
 use Rattle.life_queue.specs.declared.life.Life.{Life}
 use Rattle.js_steps.specs.declared.answer.Stop.{Stop}
 use Rattle.turn_returns.specs.declared.turn.Turn.{Turn}
-use Rattle.turn_returns.specs.declared.turn.Shared.{Shared}
+use Rattle.native_image.specs.declared.handed.Shared.{Shared}
 use Rattle.life_queue.specs.Lives.{going_of, life_seen, meant_stop, own_of, works_of}
 
 no_true : false ≡ true → ⊥

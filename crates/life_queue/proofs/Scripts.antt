@@ -27,7 +27,7 @@ use Rattle.turn_dispatch.specs.declared.level.Level.{Level}
 use Rattle.turn_dispatch.specs.declared.level.Level.TheVariants as level
 use Rattle.turn_dispatch.specs.Levels.{keeps_on, levels_rest, turn_plan}
 use Rattle.life_queue.specs.declared.life.Life.{Life}
-use Rattle.turn_returns.specs.declared.turn.Shared.{Shared}
+use Rattle.native_image.specs.declared.handed.Shared.{Shared}
 use Rattle.life_queue.specs.Lives.{trees_in}
 use Rattle.life_queue.specs.Fine.{FineLife, HasLib}
 use Rattle.life_queue.proofs.Passing.{Rested}

@@ -35,8 +35,8 @@ use Rattle.life_laws.proofs.Begins.{until_begins, until_none, until_stopped}
 use Rattle.turn_returns.proofs.Stays.{own_seen}
 use Rattle.life_queue.specs.declared.life.Life.{Life}
 use Rattle.life_queue.specs.declared.life.Work.TheVariants as work
-use Rattle.turn_returns.specs.declared.turn.Widget.{Widget}
-use Rattle.turn_returns.specs.declared.turn.Shared.{Shared}
+use Rattle.native_image.specs.declared.handed.Widget.{Widget}
+use Rattle.native_image.specs.declared.handed.Shared.{Shared}
 use Rattle.life_queue.specs.Lives.{life_with, meant_stop, outside, own_of, trees_in, work_of, works_of}
 use Rattle.life_queue.specs.Fine.{FineLife, FineWork, KeepsLife, tally}
 use Rattle.life_queue.proofs.Keeps.{cells_same}
@@ -162,7 +162,7 @@ module _ (h : Shared) (w : ℕ) (a : Life) (sound : IsSound w h.store h.page a.w
     page = page_same w h.page;
     host = host_here h.page;
     holds = subst (λ (v : Widget). HoldsOwn w h.store h.page v.around) (sym widget) timed_sound.holds;
-    number = ap (λ (v : Widget). v.number) widget;
+    number = ap (λ (v : Widget). v.id.index) widget;
     slot = slot;
     accepted = accepted;
   }

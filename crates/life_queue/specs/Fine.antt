@@ -19,7 +19,7 @@ use Rattle.life_queue.specs.declared.life.Life.{Life}
 use Rattle.turn_returns.specs.declared.turn.Turn.{Turn}
 use Rattle.life_queue.specs.declared.life.Work.{Work}
 use Rattle.life_queue.specs.declared.life.Work.TheVariants as work
-use Rattle.turn_returns.specs.declared.turn.Shared.{Shared}
+use Rattle.native_image.specs.declared.handed.Shared.{Shared}
 use Rattle.life_queue.specs.Lives.{trees_in, works_of}
 
 -- the most fuel of a turn
@@ -60,7 +60,7 @@ pub record FineCounts (h : Shared) (w : ℕ) (l : Life) : Type 0 where
 
 -- A life is confined and sound, what its queue and its turn in progress hold is its own, and its counts have room.
 pub record FineLife (h : Shared) (w : ℕ) (l : Life) : Type 0 where
-  pub number : l.widget.number ≡ w
+  pub number : l.widget.id.index ≡ w
   pub confined : IsConfined (trees_in h) w h.store
   pub sound : IsSound w h.store h.page l.widget.around
   pub lib : HasLib w h.store l
@@ -83,6 +83,6 @@ pub record KeepsLife (w : ℕ) (h k : Shared) (a b : Life) : Type 0 where
   pub page : KeepsPage w h.page k.page
   pub host : HostStays h.page k.page
   pub holds : HoldsOwn w k.store k.page b.widget.around
-  pub number : b.widget.number ≡ a.widget.number
+  pub number : b.widget.id.index ≡ a.widget.id.index
   pub slot : b.slot ≡ a.slot
   pub accepted : b.accepted ≡ a.accepted

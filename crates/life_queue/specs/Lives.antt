@@ -27,7 +27,7 @@ use Rattle.life_queue.specs.declared.life.Script.{Script}
 use Rattle.turn_returns.specs.declared.turn.Turn.{Turn}
 use Rattle.life_queue.specs.declared.life.Work.{Work}
 use Rattle.life_queue.specs.declared.life.Work.TheVariants as work
-use Rattle.turn_returns.specs.declared.turn.Shared.{Shared}
+use Rattle.native_image.specs.declared.handed.Shared.{Shared}
 
 -- why a life has stopped
 abbrev pub meant_stop : Stop → meaning.Stop

@@ -5,7 +5,7 @@ use Rattle.widget_meaning.specs.OwnState.{State}
 use Rattle.widget_meaning.specs.Plan.{Plan}
 use Rattle.life_queue.specs.declared.life.Life.{Life}
 use Rattle.life_queue.specs.declared.life.Work.{Work}
-use Rattle.turn_returns.specs.declared.turn.Shared.{Shared}
+use Rattle.native_image.specs.declared.handed.Shared.{Shared}
 use Rattle.life_queue.specs.Lives.{life_seen, life_with, own_of, trees_in, work_of, works_of}
 use Rattle.life_queue.specs.Fine.{FineLife, most_fuel, tally}
 

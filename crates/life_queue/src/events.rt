@@ -31,12 +31,14 @@ use crate::life::Life;
 use code_units::{Memory, Text, is_word};
 use event_loop::Event;
 use js_image::word;
+use native_common::WidgetId;
+use native_image::Shared;
 use object_store::{CellId, Value};
 use page_image::{set_attr, tag};
 use page_tree::{NodeId, Page};
 use std::alloc::Global;
 use turn_dispatch::{Dispatch, Doing, Heard, hear, listeners};
-use turn_returns::{Calls, Shared};
+use turn_returns::Calls;
 
 // Whether a node is an `input`.
 fn is_input(page: &Page, w: u32, node: NodeId) -> bool
@@ -171,7 +173,8 @@ fn hear_event(
         value: seen_value(&event.value)?,
         depth: 0,
     };
-    let heard = hear(alloc, &mut shared.store, w, &shared.page, dispatch, at)?;
+    let id = WidgetId { index: w };
+    let heard = hear(alloc, &mut shared.store, id, &shared.page, dispatch, at)?;
     let (doing, calls) = opened(alloc, heard)?;
     begin(life, doing, calls);
     Ok(())
@@ -199,9 +202,10 @@ fn reach(
 {
     let (event, node) = event;
     set_value(alloc, &mut shared.page, w, node, &event.value)?;
+    let id = WidgetId { index: w };
     match listeners(
         alloc,
-        w,
+        id,
         &shared.page,
         &life.widget.around,
         Some(node),

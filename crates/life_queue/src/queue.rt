@@ -9,8 +9,8 @@ use crate::events::take_event;
 use crate::life::{Life, Work};
 use crate::works::{take_advance, take_go, take_library, take_until};
 use code_units::Memory;
+use native_image::Shared;
 use std::alloc::Global;
-use turn_returns::Shared;
 
 // One work.
 fn take_work(

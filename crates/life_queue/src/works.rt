@@ -20,10 +20,12 @@ use crate::begins::begin;
 use crate::life::{Life, Script, Work};
 use code_units::Memory;
 use js_steps::Task;
+use native_common::WidgetId;
+use native_image::Shared;
 use object_store::{CellId, HostEntry, Store, Value};
 use std::alloc::Global;
 use turn_dispatch::{Doing, Level, open_script};
-use turn_returns::{Calls, Shared};
+use turn_returns::Calls;
 
 // The laws of the store, together.
 fn lawful(store: &Store)
@@ -59,7 +61,8 @@ pub(crate) fn take_library(
     let args = [Value::Ref(life.lib)];
     let mut levels = Vec::new(alloc);
     levels.push(Level::Keeps(life.lib, script.name.share()?))?;
-    let doing = open_script(alloc, &mut shared.store, w, script.code, script.fun, &args)?;
+    let id = WidgetId { index: w };
+    let doing = open_script(alloc, &mut shared.store, id, script.code, script.fun, &args)?;
     begin(
         life,
         doing,
@@ -96,7 +99,8 @@ pub(crate) fn take_go(
         Value::Ref(shared.store.host(HostEntry::Dom)),
         Value::Ref(life.lib),
     ];
-    let doing = open_script(alloc, &mut shared.store, w, script.code, script.fun, &args)?;
+    let id = WidgetId { index: w };
+    let doing = open_script(alloc, &mut shared.store, id, script.code, script.fun, &args)?;
     begin(
         life,
         doing,

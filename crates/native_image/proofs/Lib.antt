@@ -1,6 +1,7 @@
 pub mod Joint
 pub mod Meeting
 pub mod Nodes
+pub mod Reading
 pub mod Keeping
 pub mod Charges
 pub mod Weighed

@@ -5,7 +5,7 @@ use Rattle.store_cells.specs.Cells.{Cells}
 use Rattle.widget_meaning.specs.OwnState.{State}
 use Rattle.widget_meaning.specs.Plan.{Plan, charge}
 use Rattle.js_image.specs.Image.{seen}
-use Rattle.js_values.specs.Answers.{Answers, IsFineOut, IsOutOfFuel, Leaves}
+use Rattle.js_values.specs.Answers.{Answers, IsOutOfFuel, Leaves}
 use Rattle.js_values.specs.Fuel.{Fuel}
 use Rattle.js_values.specs.declared.outcome.NativeOut.{NativeOut}
 use Rattle.js_values.specs.declared.outcome.NativeOut.TheVariants as native
@@ -15,7 +15,7 @@ use Rattle.page_tree.specs.declared.page.Page.{Page}
 use Rattle.page_image.specs.Image.{number}
 use Rattle.event_loop.specs.declared.around.Loop.{Loop}
 use Rattle.native_image.specs.Image.{Outside, Parts, beside, image}
-use Rattle.native_image.specs.Refines.{EndsAt, FiresAtOwn, RefinesAt, Reads}
+use Rattle.native_image.specs.Refines.{EndsAt, FiresAtOwn, RefinesAt}
 use Rattle.native_image.specs.Sound.{IsSound}
 use Rattle.native_image.proofs.Joint.{rest, sound_stays, store_lift}
 
@@ -93,35 +93,4 @@ refines_lift w lt s new p l b sound had has plan o fires m = record {
   spent = m.spent;
   unpaid = λ f. (ap (λ (c : Cells). beside c p l b) (m.unpaid f).0, (m.unpaid f).1);
   sound = sound_stays w s new p l sound (m.kept []);
-}
-
--- a native that reads, by what it does to the store
-pub reads_by : (w : ℕ) (lt : w < 32) (s new : Cells) (p : Page) (l : Loop) → IsSound w s p l → (had has : Fuel) (plan q : ℕ → State → Plan) (o : NativeOut) → ((v : ℕ) (h : Parts) → FiresAtOwn v h o) → ((fs : List Forest) (x : Outside) (b : Option Bool) (d : ℕ) → plan d (image fs x w (beside s p l b)) ≡ q d (image fs x w (beside s p l b))) → Refines w s new had has q o → Reads w s new p l had has plan o
-reads_by w lt s new p l sound had has plan q o fires same m = record {
-  refines = λ b. at_same w (beside s p l b) (beside new p l b) plan q o had has (λ fs x d. same fs x b d) (refines_lift w lt s new p l b sound had has q o (fires w (beside new p l b)) m);
-}
-
--- an answer before any charge
-pub reads_free : (w : ℕ) (s : Cells) (p : Page) (l : Loop) → IsSound w s p l → (had : Fuel) (plan : ℕ → State → Plan) (o : NativeOut) → IsFineOut w s.cells o → ((v : ℕ) (h : Parts) → FiresAtOwn v h o) → ((fs : List Forest) (x : Outside) (b : Option Bool) (d : ℕ) → Leaves (seen w s.cells) (number p w) d o (image fs x w (beside s p l b)) (plan d (image fs x w (beside s p l b)))) → Reads w s s p l had had plan o
-reads_free w s p l sound had plan o fine fires leaves = record {
-  refines = λ b. at_free w (beside s p l b) (beside s p l b) plan o had (record { leaves = λ fs x d. leaves fs x b d; fine = fine; fires = fires w (beside s p l b); sound = sound });
-}
-
--- a charge was taken, and the answer is what is left
-pub reads_charged : (w : ℕ) (s new : Cells) (p : Page) (l : Loop) (n : ℕ) (plan q : ℕ → State → Plan) (o : NativeOut) (had has : Fuel) → had.left ≡ n + has.left → has.spent ≡ had.spent + n → ((fs : List Forest) (x : Outside) (b : Option Bool) (d : ℕ) → plan d (image fs x w (beside s p l b)) ≡ charge n (image fs x w (beside s p l b)) (q d (image fs x w (beside s p l b)))) → ((b : Option Bool) → EndsAt w (beside s p l b) (beside new p l b) q o) → Reads w s new p l had has plan o
-reads_charged w s new p l n plan q o had has left spent same h = record {
-  refines = λ b. at_same w (beside s p l b) (beside new p l b) plan (λ d t. charge n t (q d t)) o had has (λ fs x d. same fs x b d) (at_charged w (beside s p l b) (beside new p l b) n q o had has left spent (h b));
-}
-
--- a charge that is not there
-pub reads_lacking : (w : ℕ) (s : Cells) (p : Page) (l : Loop) → IsSound w s p l → (n : ℕ) (plan q : ℕ → State → Plan) (had has : Fuel) → has ≡ had → had.left < n → ((fs : List Forest) (x : Outside) (b : Option Bool) (d : ℕ) → plan d (image fs x w (beside s p l b)) ≡ charge n (image fs x w (beside s p l b)) (q d (image fs x w (beside s p l b)))) → Reads w s s p l had has plan native.OutOfFuel
-reads_lacking w s p l sound n plan q had has e lt same = record {
-  refines = λ b. subst (λ (f : Fuel). RefinesAt w (beside s p l b) (beside s p l b) had f plan native.OutOfFuel) (sym e)
-      (at_same w (beside s p l b) (beside s p l b) plan (λ d t. charge n t (q d t)) native.OutOfFuel had had (λ fs x d. same fs x b d) (at_lacking w (beside s p l b) n q had sound lt));
-}
-
--- a plan that is the same at the image
-pub reads_same : (w : ℕ) (s new : Cells) (p : Page) (l : Loop) (had has : Fuel) (plan q : ℕ → State → Plan) (o : NativeOut) → ((fs : List Forest) (x : Outside) (b : Option Bool) (d : ℕ) → plan d (image fs x w (beside s p l b)) ≡ q d (image fs x w (beside s p l b))) → Reads w s new p l had has q o → Reads w s new p l had has plan o
-reads_same w s new p l had has plan q o same h = record {
-  refines = λ b. at_same w (beside s p l b) (beside new p l b) plan q o had has (λ fs x d. same fs x b d) (h.refines b);
 }

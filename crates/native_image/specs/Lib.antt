@@ -1,6 +1,7 @@
 pub mod Image
 pub mod Sound
 pub mod Refines
+pub mod Handed
 pub mod Charges
 pub mod Weights
 pub mod Made

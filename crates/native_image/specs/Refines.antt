@@ -1,7 +1,6 @@
 -- When a native carries out its plan at the image of its owner. Plans are given by call depth and state.
-use Rattle.std.specs.Prelude.{◌≡◌, ℕ, ◌+◌, List, Bool, true, Option}
+use Rattle.std.specs.Prelude.{◌≡◌, ℕ, ◌+◌, List, true}
 use Rattle.js_tree.specs.Forest.{Forest}
-use Rattle.store_cells.specs.Cells.{Cells}
 use Rattle.query_grammar.specs.Finds.{has_number}
 use Rattle.widget_meaning.specs.OwnState.{State}
 use Rattle.widget_meaning.specs.Plan.{Plan}
@@ -11,10 +10,8 @@ use Rattle.js_values.specs.Fuel.{Fuel}
 use Rattle.js_values.specs.declared.outcome.NativeOut.{NativeOut}
 use Rattle.js_values.specs.declared.outcome.NativeOut.TheVariants as native
 use Rattle.js_values.specs.declared.outcome.Plan.TheVariants as calls
-use Rattle.page_tree.specs.declared.page.Page.{Page}
-use Rattle.event_loop.specs.declared.around.Loop.{Loop}
 use Rattle.page_image.specs.Image.{number, owns}
-use Rattle.native_image.specs.Image.{Outside, Parts, beside, image}
+use Rattle.native_image.specs.Image.{Outside, Parts, image}
 use Rattle.native_image.specs.Sound.{IsSound}
 
 -- the nodes to which an answer asks for a dispatch are the widget's
@@ -37,7 +34,3 @@ pub record RefinesAt (w : ℕ) (old new : Parts) (had has : Fuel) (plan : ℕ �
   pub spent : has.left + has.spent ≡ had.left + had.spent
   pub unpaid : IsOutOfFuel o → (new ≡ old) × (has ≡ had)
   pub sound : IsSound w new.store new.page new.around
-
--- An answer of a native that reads page and loop and leaves them refines its plan, whatever runs around it.
-pub record Reads (w : ℕ) (old new : Cells) (p : Page) (l : Loop) (had has : Fuel) (plan : ℕ → State → Plan) (o : NativeOut) : Type 0 where
-  pub refines : (b : Option Bool) → RefinesAt w (beside old p l b) (beside new p l b) had has plan o

@@ -8,6 +8,7 @@ mod bunches;
 mod charging;
 mod giving;
 mod growing;
+mod handed;
 mod making;
 mod weighing;
 
@@ -15,5 +16,6 @@ pub use bunches::{bunch_of, bunch_of_node, give_bunch, make_bunch, make_bunches,
 pub use charging::{Cost, begin};
 pub use giving::{give_page_text, give_plain, make_text};
 pub use growing::{add_tree, copy_tree};
+pub use handed::{Receiver, Shared, Widget};
 pub use making::{give_node, pay_judged};
 pub use weighing::{Bill, Due, settle, weigh};

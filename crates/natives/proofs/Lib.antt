@@ -1,5 +1,4 @@
 pub mod InRooms
-pub mod Receivers
 mod Unheard
 pub mod Whole
 pub mod Started

@@ -7,6 +7,8 @@ use Rattle.event_loop.specs.declared.around.Loop.{Loop}
 use Rattle.widget_meaning.specs.OwnState.{State}
 use Rattle.adsafe_object.specs.Notes.{post_of}
 use Rattle.native_image.specs.Image.{Outside, Parts, beside, image}
+use Rattle.native_image.specs.declared.handed.Shared.{Shared}
+use Rattle.native_image.specs.declared.handed.Widget.{Widget}
 
 -- The store, the page, the widget's loop and its innermost dispatch; its log; and the posts that it has kept, by receiver and text.
 pub record Reach : Type 0 where
@@ -17,6 +19,10 @@ pub record Reach : Type 0 where
 -- these together
 abbrev pub reach : Cells → Page → Loop → Option Bool → List (List ℕ) → List (List ℕ × List ℕ) → Reach
 reach s p l b log posts = record { parts = beside s p l b; log = log; posts = posts }
+
+-- of a widget, beside what all share
+abbrev pub reach_of : Shared → Widget → Reach
+reach_of h v = reach h.store h.page v.around v.bubbled v.log.items v.posts.items
 
 -- the host's records of the widget, with this log and these posts
 abbrev pub with_notes : List (List ℕ) → List (List ℕ × List ℕ) → Outside → Outside

@@ -1,5 +1,6 @@
 -- When a native carries out its plan at the whole state of its owner. Plans are given by call depth and state.
-use Rattle.std.specs.Prelude.{◌≡◌, ℕ, ◌+◌, List}
+use Rattle.std.specs.Prelude.{◌≡◌, ℕ, ◌+◌, List, IfOk, Result}
+use Rattle.code_units.specs.declared.memory.Memory.{Memory}
 use Rattle.std.specs.Option.{option_map}
 use Rattle.js_tree.specs.Forest.{Forest}
 use Rattle.store_cells.specs.Cells.{PlainCell}
@@ -15,8 +16,10 @@ use Rattle.js_values.specs.Fuel.{Fuel}
 use Rattle.js_values.specs.declared.outcome.NativeOut.{NativeOut}
 use Rattle.native_image.specs.Image.{Outside}
 use Rattle.native_image.specs.Refines.{FiresAtOwn}
-use Rattle.native_image.specs.Sound.{IsSound}
-use Rattle.natives.specs.Reach.{Reach, state}
+use Rattle.native_image.specs.Sound.{IsSound, KeepsAll}
+use Rattle.native_image.specs.declared.handed.Shared.{Shared}
+use Rattle.native_image.specs.declared.handed.Widget.{Widget}
+use Rattle.natives.specs.Reach.{Reach, reach_of, state}
 
 -- the meaning of a native that is called, by call depth
 abbrev pub plan_of : ℕ → List PlainCell → NativeCall → ℕ → State → Plan
@@ -31,3 +34,10 @@ pub record RefinesWhole (w : ℕ) (old new : Reach) (had has : Fuel) (plan : ℕ
   pub spent : has.left + has.spent ≡ had.left + had.spent
   pub unpaid : IsOutOfFuel o → (new ≡ old) × (has ≡ had)
   pub sound : IsSound w new.parts.store new.parts.page new.parts.around
+
+-- What comes of a native of a widget: an answer refines its plan; after want of memory too what a call keeps is kept, the code is as it was, and the widget is the same one.
+pub record CarriesOut (old new : Shared) (v u : Widget) (had has : Fuel) (plan : ℕ → State → Plan) (r : Result NativeOut Memory) : Type 0 where
+  pub refines : IfOk r (RefinesWhole v.id.index (reach_of old v) (reach_of new u) had has plan)
+  pub kept : KeepsAll v.id.index old.store new.store old.page new.page u.around
+  pub codes : new.codes ≡ old.codes
+  pub id : u.id ≡ v.id

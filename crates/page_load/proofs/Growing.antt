@@ -21,7 +21,7 @@ use Rattle.life_laws.specs.Life as todo
 use Rattle.life_laws.specs.Life.{waiting}
 use Rattle.page_nodes.specs.Entries.{body}
 use Rattle.page_tree.specs.declared.page.Page.{Page}
-use Rattle.turn_returns.specs.declared.turn.Shared.{Shared}
+use Rattle.native_image.specs.declared.handed.Shared.{Shared}
 use Rattle.turn_dispatch.specs.Held.{IsScriptOf}
 use Rattle.life_queue.specs.declared.life.Life.{Life}
 use Rattle.life_queue.specs.declared.life.Script.{Script}

@@ -24,7 +24,7 @@ use Rattle.page_image.proofs.Pages.{below_32}
 use Rattle.widget_meaning.specs.Alone.{Content, beginning}
 use Rattle.life_laws.specs.Life.{due, image, waiting}
 use Rattle.slot_laws.specs.Chains.{Chains, listed as has_one}
-use Rattle.turn_returns.specs.declared.turn.Shared.{Shared}
+use Rattle.native_image.specs.declared.handed.Shared.{Shared}
 use Rattle.slot_picks.specs.declared.lives.Place.{Place}
 use Rattle.slot_picks.specs.declared.slots.Slot.{Slot}
 use Rattle.slot_picks.specs.Places.{homes_of as homes_list, roots_of}

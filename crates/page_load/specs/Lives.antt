@@ -16,8 +16,8 @@ use Rattle.event_loop.specs.Around.{clock, focus, kept, timers}
 use Rattle.event_loop.specs.Kept.{nothing}
 use Rattle.widget_meaning.specs.Alone.{Content, beginning, call_parts, lib}
 use Rattle.life_laws.specs.Life.{waiting}
-use Rattle.turn_returns.specs.declared.turn.Shared.{Shared}
-use Rattle.turn_returns.specs.declared.turn.Widget.{Widget}
+use Rattle.native_image.specs.declared.handed.Shared.{Shared}
+use Rattle.native_image.specs.declared.handed.Widget.{Widget}
 use Rattle.life_queue.specs.declared.life.Life.{Life}
 use Rattle.life_queue.specs.Lives.{life_seen}
 use Rattle.life_queue.specs.Fine.{FineLife, tally}
@@ -58,7 +58,7 @@ pub record IsLib (w : ℕ) (s : Cells) (cell : ℕ) : Type 0 where
 
 -- Nothing is kept for a widget with this number.
 pub record IsBlank (w : ℕ) (a : Widget) : Type 0 where
-  pub number : a.number ≡ w
+  pub number : a.id.index ≡ w
   pub kept_none : (n : ℕ) → kept a.around n ≡ nothing
   pub no_timers : timers a.around ≡ []
   pub no_time : clock a.around ≡ 0

@@ -11,7 +11,7 @@ use Rattle.page_tree.specs.declared.page.Page.{Page}
 use Rattle.page_image.specs.Image.{own}
 use Rattle.widget_meaning.specs.Alone.{Content, beginning, loaded}
 use Rattle.life_laws.specs.Life.{due, image}
-use Rattle.turn_returns.specs.declared.turn.Shared.{Shared}
+use Rattle.native_image.specs.declared.handed.Shared.{Shared}
 use Rattle.life_queue.specs.Lives.{life_seen}
 use Rattle.life_queue.specs.Fine.{FineLife, most_fuel, tally}
 use Rattle.slot_picks.specs.declared.lives.Place.{Place}

@@ -16,13 +16,14 @@ use code_units::{Memory, Owner};
 use event_loop::Loop;
 use keyed_names::Keys;
 use life_queue::{Life, Records, Work};
+use native_common::WidgetId;
+use native_image::{Shared, Widget};
 use object_store::{CellId, HostEntry, NewCell, Store};
 use page_nodes::BODY;
 use page_tree::NodeId;
 use slot_picks::Place;
 use std::alloc::Global;
 use std::collections::VecDeque;
-use turn_returns::{Shared, Widget};
 
 /// The most fuel of a turn.
 pub(crate) const MOST_FUEL: u32 = 1_000_000;
@@ -57,12 +58,14 @@ pub(crate) fn make_lib(alloc: Global, store: &mut Store, w: u32) -> Result<CellI
 
 // A widget for which nothing is kept.
 fn blank(alloc: Global, keys: Keys, w: u32) -> Result<Widget, Memory>
+    requires widget { w < 32 }
     ensures { IfOk result (IsBlank w) }
 {
     let around = Loop::new(alloc, keys)?;
     Ok(Widget {
-        number: w,
+        id: WidgetId { index: w },
         around,
+        bubbled: None,
         log: Vec::new(alloc),
         posts: Vec::new(alloc),
     })
@@ -89,6 +92,7 @@ fn no_records(alloc: Global) -> Records
 
 /// A place in which no life is accepted.
 pub(crate) fn no_place(alloc: Global, keys: Keys, w: u32) -> Result<Place, Memory>
+    requires widget { w < 32 }
     ensures slot { IfOk result (IsIn w) }
     ensures unborn { IfOk result IsUnborn }
 {
@@ -119,6 +123,7 @@ fn new_life(
     grant: u32,
     queue: VecDeque<Work>,
 ) -> Result<Life, Memory>
+    requires widget { w < 32 }
     ensures slot { IfOk result (λ life. life.slot ≡ w) }
     ensures new { IfOk result (IsNewLife w grant) }
     ensures queue { IfOk result (λ life. life.queue.items ≡ queue.items) }
@@ -145,6 +150,7 @@ pub(crate) fn waiting_place(
     fuel: u32,
     scripts: Scripts,
 ) -> Result<Place, Memory>
+    requires widget { w < 32 }
     ensures slot { IfOk result (IsIn w) }
     ensures ready { IfOk result (IsReady w fuel scripts) }
 {

@@ -12,11 +12,11 @@ use crate::lives::{MOST_FUEL, places_of};
 use code_units::Memory;
 use js_names::Code;
 use keyed_names::Keys;
+use native_image::Shared;
 use page_plan::{PageSpec, SlotSpec};
 use slot_picks::{Lives, Slot};
 use std::alloc::Global;
 use std::collections::VecDeque;
-use turn_returns::Shared;
 
 /// What a host begins with.
 #[derive(Drop)]
@@ -83,6 +83,7 @@ pub fn load_page(alloc: Global, keys: Keys, spec: PageSpec) -> Result<Loaded, Me
     let libs = library_codes(alloc, spec.libs)?;
     let starts = starts_of(alloc, &libs, spec.slots)?;
     let mut shared = Shared {
+        alloc,
         store,
         page,
         codes: Vec::new(alloc),

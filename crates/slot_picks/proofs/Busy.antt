@@ -5,7 +5,7 @@ use Rattle.std.proofs.lemmas.Bool.{ne_eqb}
 use Rattle.std.specs.Option.{option_map}
 use Rattle.life_laws.specs.Life as todo
 use Rattle.life_laws.specs.Life.{Going, is_empty, ready}
-use Rattle.turn_returns.specs.declared.turn.Shared.{Shared}
+use Rattle.native_image.specs.declared.handed.Shared.{Shared}
 use Rattle.turn_returns.specs.declared.turn.Turn.{Turn}
 use Rattle.life_queue.specs.declared.life.Life.{Life}
 use Rattle.life_queue.specs.declared.life.Work.{Work}

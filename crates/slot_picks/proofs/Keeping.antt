@@ -8,7 +8,7 @@ use Rattle.page_image.proofs.Hosting.{host_same}
 use Rattle.native_image.specs.Sound.{HasRaw}
 use Rattle.native_image.proofs.Added.{raw_stays}
 use Rattle.js_names.specs.Code.{trees_of}
-use Rattle.turn_returns.specs.declared.turn.Shared.{Shared}
+use Rattle.native_image.specs.declared.handed.Shared.{Shared}
 use Rattle.life_queue.specs.declared.life.Life.{Life}
 use Rattle.life_queue.specs.Fine.{FineTurn, KeepsLife}
 use Rattle.slot_picks.specs.declared.lives.Lives.{Lives}

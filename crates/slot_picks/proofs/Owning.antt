@@ -7,7 +7,7 @@ use Rattle.js_image.specs.Held.{IsConfined}
 use Rattle.native_image.specs.Sound.{KeepsPage}
 use Rattle.js_names.specs.declared.code.Code.{Code}
 use Rattle.js_names.specs.Code.{trees_of}
-use Rattle.turn_returns.specs.declared.turn.Shared.{Shared}
+use Rattle.native_image.specs.declared.handed.Shared.{Shared}
 use Rattle.life_queue.specs.Fine.{FineTurn, KeepsCells, KeepsLife}
 use Rattle.life_queue.proofs.Apart.{holds_apart, turn_apart}
 use Rattle.slot_picks.specs.declared.lives.Place.{Place}

@@ -8,7 +8,7 @@ use Rattle.life_laws.specs.Life.{Seen, ready, weight}
 use Rattle.pick_laws.specs.declared.entry.Picked.{Picked}
 use Rattle.pick_laws.specs.Picks.{Picks}
 use Rattle.pick_laws.specs.Journal.{PickedAt}
-use Rattle.turn_returns.specs.declared.turn.Shared.{Shared}
+use Rattle.native_image.specs.declared.handed.Shared.{Shared}
 use Rattle.life_queue.specs.declared.life.Life.{Life}
 use Rattle.turn_returns.specs.declared.turn.Turn.{Turn}
 use Rattle.life_queue.specs.Lives.{life_seen, trees_in}
@@ -58,13 +58,13 @@ module _ (h : Shared) (v : ℕ) (ls : List Place) (a : Place) (at : slice_get ls
   fine_here = fines_at h 0 v v ls a (omega arith) at all accepted
 
   -- its number is its place
-  pub number_here : a.life.widget.number ≡ v
+  pub number_here : a.life.widget.id.index ≡ v
   number_here = fine_here.number
 
-  pub fine_number : FineLife (lent h a) a.life.widget.number a.life
+  pub fine_number : FineLife (lent h a) a.life.widget.id.index a.life
   fine_number = subst (λ i. FineLife (lent h a) i a.life) (sym number_here) fine_here
 
-  module _ (m : Shared) (b : Place) (within : v < length ls) (few : length ls ≤ 32) (kept : KeepsLife a.life.widget.number (lent h a) (lent m b) a.life b.life) where
+  module _ (m : Shared) (b : Place) (within : v < length ls) (few : length ls ≤ 32) (kept : KeepsLife a.life.widget.id.index (lent h a) (lent m b) a.life b.life) where
     room : 0 + length ls ≤ 32
     room = omega (arith, few)
 
@@ -78,7 +78,7 @@ module _ (h : Shared) (v : ℕ) (ls : List Place) (a : Place) (at : slice_get ls
     pub others_seen : (u : ℕ) → u ≢ v → slice_get (seens_from m 0 (slice_set ls v b)) u ≡ slice_get (seens_from h 0 ls) u
     others_seen u ne = ap (λ ss. slice_get ss u) seens_here ∙ get_other (seens_from h 0 ls) v u (seen_at m v b) (λ e. ne (sym e))
 
-  module _ (m : Shared) (k : ℕ) (b : Place) (within : v < length ls) (few : length ls ≤ 32) (r : Picked) (kept : KeepsLife a.life.widget.number (lent h a) (lent m b) a.life b.life) (picks : PicksLife (lent h a) (lent m b) a.life.widget.number k r a.life b.life) where
+  module _ (m : Shared) (k : ℕ) (b : Place) (within : v < length ls) (few : length ls ≤ 32) (r : Picked) (kept : KeepsLife a.life.widget.id.index (lent h a) (lent m b) a.life b.life) (picks : PicksLife (lent h a) (lent m b) a.life.widget.id.index k r a.life b.life) where
     keeps_at : KeepsLife v (lent h a) (lent m b) a.life b.life
     keeps_at = keeps m b within few kept
 

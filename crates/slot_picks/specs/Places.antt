@@ -8,7 +8,7 @@ use Rattle.js_names.specs.Code.{trees_of}
 use Rattle.native_image.specs.Sound.{HoldsOwn}
 use Rattle.life_laws.specs.Life.{Seen}
 use Rattle.slot_laws.specs.Settled.{flag}
-use Rattle.turn_returns.specs.declared.turn.Shared.{Shared}
+use Rattle.native_image.specs.declared.handed.Shared.{Shared}
 use Rattle.life_queue.specs.Lives.{life_seen}
 use Rattle.life_queue.specs.Fine.{FineLife, FineTurn, tally}
 use Rattle.slot_picks.specs.declared.lives.Place.{Place}

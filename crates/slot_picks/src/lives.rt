@@ -2,7 +2,7 @@
 ghost use Rattle.std.specs.Prelude.{◌≡◌, ◌≢◌, ℕ, ◌<◌, ◌≤◌, ◌++◌, [], ◌∷◌, IfOk, None, OnErr, OnOk, Some, true, length, slice_get};
 ghost use Rattle.life_laws.specs.Life.{Seen, image};
 ghost use Rattle.pick_laws.specs.Journal.{Kept, PickedAt, journal_room, kept};
-ghost use Rattle.turn_returns.specs.declared.turn.Shared.{Shared as SharedOf};
+ghost use Rattle.native_image.specs.declared.handed.Shared.{Shared as SharedOf};
 ghost use Rattle.life_queue.specs.Fine.{FineLife, KeepsLife};
 ghost use Rattle.life_queue.specs.Lives.{life_seen};
 ghost use Rattle.life_picks.specs.Picking.{PicksLife};
@@ -14,12 +14,12 @@ use code_units::Memory;
 use js_names::Code;
 use life_picks::pick_life;
 use life_queue::Life;
+use native_image::Shared;
 use page_tree::NodeId;
 use pick_laws::{PickEntry, Picked};
 use std::alloc::Global;
 use std::collections::VecDeque;
 use std::mem::swap;
-use turn_returns::Shared;
 
 /// A life in its place, with the trees of its own scripts: those of the libraries that its file names, in
 /// their order, and then that of its last script.
@@ -91,13 +91,13 @@ fn pick_lent(
     place: &mut Place,
     k: u32,
 ) -> Result<Picked, Memory>
-    requires widget { place.old.life.widget.number < 32 }
+    requires widget { place.old.life.widget.id.index < 32 }
     requires slice { 0 < k }
-    requires fine { FineLife (lent shared.old place.old) place.old.life.widget.number place.old.life }
+    requires fine { FineLife (lent shared.old place.old) place.old.life.widget.id.index place.old.life }
     ensures picked { IfOk result
         (λ r. PicksLife (lent shared.old place.old)
-        (lent shared.new place.new) place.old.life.widget.number k r place.old.life place.new.life) }
-    ensures kept { KeepsLife place.old.life.widget.number (lent shared.old place.old)
+        (lent shared.new place.new) place.old.life.widget.id.index k r place.old.life place.new.life) }
+    ensures kept { KeepsLife place.old.life.widget.id.index (lent shared.old place.old)
         (lent shared.new place.new) place.old.life place.new.life }
     ensures none { OnErr result (place.new.life.turn ≡ None) }
     ensures rest { shared.new.codes ≡ shared.old.codes }

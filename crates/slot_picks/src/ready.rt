@@ -5,7 +5,7 @@ ghost use Rattle.pick_laws.specs.Journal.{ready_from};
 ghost use Rattle.slot_laws.specs.Settled.{slot_flags};
 ghost use Rattle.slot_laws.specs.Slots.{Each, slot_ready};
 ghost use Rattle.life_queue.specs.Lives.{life_seen};
-ghost use Rattle.turn_returns.specs.declared.turn.Shared.{Shared as SharedOf};
+ghost use Rattle.native_image.specs.declared.handed.Shared.{Shared as SharedOf};
 ghost use Rattle.slot_picks.specs.declared.slots.Slot.{Slot as SlotOf};
 ghost use Rattle.slot_picks.specs.Lives.{AreHoused, chains_of, seens_of};
 ghost use Rattle.slot_picks.specs.Places.{seen_at, seens_from};

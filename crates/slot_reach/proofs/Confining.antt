@@ -14,7 +14,7 @@ use Rattle.slot_laws.specs.Chains.{last_life}
 use Rattle.slot_picks.specs.declared.lives.Lives.{Lives}
 use Rattle.slot_picks.specs.declared.lives.Place.{Place}
 use Rattle.slot_picks.specs.declared.slots.Slot.{Slot}
-use Rattle.turn_returns.specs.declared.turn.Shared.{Shared}
+use Rattle.native_image.specs.declared.handed.Shared.{Shared}
 use Rattle.slot_picks.specs.Lives.{AreStanding, OwnLives}
 use Rattle.slot_picks.specs.Places.{HoldsItsOwn, OwnPlaces, homes_of}
 use Rattle.reach_cert.specs.Walks.{KeepsIn}

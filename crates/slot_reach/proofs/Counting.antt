@@ -14,7 +14,7 @@ use Rattle.slot_laws.specs.Chains.{last_life}
 use Rattle.slot_picks.specs.declared.lives.Lives.{Lives}
 use Rattle.slot_picks.specs.declared.lives.Place.{Place}
 use Rattle.slot_picks.specs.declared.slots.Slot.{Slot}
-use Rattle.turn_returns.specs.declared.turn.Shared.{Shared}
+use Rattle.native_image.specs.declared.handed.Shared.{Shared}
 use Rattle.slot_picks.specs.Lives.{AreStanding}
 use Rattle.slot_picks.specs.Places.{homes_of}
 use Rattle.store_reach.specs.Reads.{cell_row, cell_rows, held_refs, read_slot}

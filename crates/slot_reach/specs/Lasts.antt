@@ -11,7 +11,7 @@ use Rattle.life_laws.specs.Life.{Seen, image}
 use Rattle.life_queue.specs.Lives.{life_seen}
 use Rattle.slot_picks.specs.Places.{is_accepted, lent}
 use Rattle.slot_picks.specs.Lives.{seens_of}
-use Rattle.turn_returns.specs.declared.turn.Shared.{Shared}
+use Rattle.native_image.specs.declared.handed.Shared.{Shared}
 use Rattle.reach_cert.specs.Certs as cert
 use Rattle.reach_cert.specs.Shape.{is_name}
 use Rattle.widget_meaning.specs.OwnState.{OwnState}

@@ -10,12 +10,12 @@ ghost use Rattle.state_reach.specs.States.{cert_of_states};
 use crate::few::cells_are_few;
 use crate::names::{last_of, name_all};
 use code_units::{Memory, Text};
+use native_image::Shared;
 use reach_cert::{Block, Cert, confined_has_shape, each_slot_keeps_in};
 use slot_picks::{Lives, Place, Slot};
 use state_reach::{names_all_differ, states_are_read};
 use std::alloc::Global;
 use store_reach::{own_stays, read_block};
-use turn_returns::Shared;
 
 // The block of a life, of a slot with this name.
 fn read_life(

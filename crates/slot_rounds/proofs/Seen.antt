@@ -15,7 +15,7 @@ use Rattle.post_rounds.specs.declared.posts.Post.{Post}
 use Rattle.post_rounds.specs.News.{all_news, news}
 use Rattle.round_laws.specs.Fed.{AreQuiet, Fed, event_of, fresh, posts_of, round}
 use Rattle.round_laws.specs.Fed as fed
-use Rattle.turn_returns.specs.declared.turn.Shared.{Shared}
+use Rattle.native_image.specs.declared.handed.Shared.{Shared}
 use Rattle.life_queue.specs.declared.life.Work.{Work}
 use Rattle.life_queue.specs.declared.life.Work.TheVariants as work
 use Rattle.life_queue.specs.Lives as lives

@@ -9,7 +9,7 @@ use Rattle.life_laws.specs.Life as todo
 use Rattle.life_laws.specs.Life.{Seen, image, potentials}
 use Rattle.round_laws.specs.Fed.{event_of}
 use Rattle.slot_laws.specs.Chains.{Chains, last_life}
-use Rattle.turn_returns.specs.declared.turn.Shared.{Shared}
+use Rattle.native_image.specs.declared.handed.Shared.{Shared}
 use Rattle.life_queue.specs.declared.life.Work.{Work}
 use Rattle.life_queue.specs.declared.life.Work.TheVariants as work
 use Rattle.life_queue.specs.Lives.{life_seen, trees_in, work_of, works_of}

@@ -10,7 +10,7 @@ use Rattle.life_queue.specs.declared.life.Work.{Work}
 use Rattle.life_queue.specs.declared.life.Work.TheVariants as work
 use Rattle.life_queue.specs.Lives as lives
 use Rattle.slot_picks.specs.declared.lives.Place.{Place}
-use Rattle.turn_returns.specs.declared.turn.Shared.{Shared}
+use Rattle.native_image.specs.declared.handed.Shared.{Shared}
 use Rattle.slot_picks.specs.Places.{is_accepted, seens_from, told_of}
 use Rattle.slot_rounds.specs.Feeding.{AreFed, AreStill, Delivers, HaveDone, counts_for, events_for}
 

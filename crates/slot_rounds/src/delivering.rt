@@ -7,7 +7,7 @@ ghost use Rattle.slot_laws.specs.Chains.{Chains};
 ghost use Rattle.slot_picks.specs.Lives.{chains_of};
 ghost use Rattle.slot_picks.specs.Places.{homes_of, seens_from, told_of};
 ghost use Rattle.slot_picks.specs.declared.slots.Slot.{Slot as SlotOf};
-ghost use Rattle.turn_returns.specs.declared.turn.Shared.{Shared};
+ghost use Rattle.native_image.specs.declared.handed.Shared.{Shared};
 ghost use Rattle.widget_meaning.specs.Limits.{max_posts};
 ghost use Rattle.slot_rounds.specs.Feeding.{is_last, sum_of};
 ghost use Rattle.slot_rounds.specs.Posting.{AreAlike, GivesRound, IsRound};

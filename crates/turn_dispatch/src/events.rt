@@ -1,5 +1,5 @@
 //! The event object of a dispatch, with the Bunches of its target and of the node that listens.
-ghost use Rattle.std.specs.Prelude.{◌≡◌, ℕ, ◌<◌, List, [], ◌∷◌, Option, Bool, IfOk, IfSome, OnOk, None, is_some, true};
+ghost use Rattle.std.specs.Prelude.{◌≡◌, ℕ, List, [], ◌∷◌, Option, Bool, IfOk, IfSome, OnOk, None, is_some, true};
 ghost use Rattle.js_tree.specs.Forest.{Forest};
 ghost use Rattle.store_cells.specs.declared.value.Value.TheVariants as value;
 ghost use Rattle.widget_meaning.specs.Costs as costs;
@@ -35,16 +35,15 @@ const EVENT_CELLS: u32 = 3;
 const EVENT_SLOTS: u32 = 9;
 
 /// Why an event object cannot be paid, none where it can: cells are judged before slots.
-pub(crate) fn refusal(store: &Store, w: u32) -> Option<StopCause>
-    requires { w < 32 }
+pub(crate) fn refusal(store: &Store, w: WidgetId) -> Option<StopCause>
     ensures stop { IfSome result (λ c. (fs : List Forest) (r : Rest) (k : State → Plan)
-        → costs.pay event_cost (store_image fs r w store.now) k ≡ Halt (meant_cause c) (store_image fs r w store.now)) }
+        → costs.pay event_cost (store_image fs r w.index store.now) k ≡ Halt (meant_cause c) (store_image fs r w.index store.now)) }
     ensures fits { result ≡ None → (fs : List Forest) (r : Rest) (k : State → Plan)
-        → costs.pay event_cost (store_image fs r w store.now) k
-        ≡ k (with_counts (store_image fs r w store.now)
-        (costs.sum (store_image fs r w store.now).own.counts event_cost)) }
+        → costs.pay event_cost (store_image fs r w.index store.now) k
+        ≡ k (with_counts (store_image fs r w.index store.now)
+        (costs.sum (store_image fs r w.index store.now).own.counts event_cost)) }
 {
-    let paid = store.counts(Owner::Widget(w));
+    let paid = store.counts(Owner::Widget(w.index));
     if EVENT_CELLS > CELL_LIMIT - paid.cells {
         return Some(StopCause::Cells);
     }
@@ -106,88 +105,89 @@ fn lawful(store: &Store)
 fn make_object(
     alloc: Global,
     store: &mut Store,
-    w: u32,
+    w: WidgetId,
     dispatch: &Dispatch,
 ) -> Result<CellId, Memory>
-    requires widget { w < 32 }
-    requires value { IsFine w store.old.cells dispatch.now.value }
-    ensures born { IfOk result (λ e. (p : PageTree) → Changes w store.old store.new p
+    requires { IsFine w.index store.old.cells dispatch.now.value }
+    ensures born { IfOk result (λ e. (p : PageTree) → Changes w.index store.old store.new p
         (born (plain_object (pairs_with dispatch.now.kind Nothing Nothing
-        (seen w store.old.cells dispatch.now.value))) (object_cost 5))) }
-    ensures next { IfOk result (λ e. (p : PageTree) → IsNext w store.old store.new p e) }
-    ensures held { IfOk result (λ e. IsHeld w store.new.cells e) }
-    ensures kept { (fs : List Forest) → Kept fs w store.old store.new }
+        (seen w.index store.old.cells dispatch.now.value))) (object_cost 5))) }
+    ensures next { IfOk result (λ e. (p : PageTree) → IsNext w.index store.old store.new p e) }
+    ensures held { IfOk result (λ e. IsHeld w.index store.new.cells e) }
+    ensures kept { (fs : List Forest) → Kept fs w.index store.old store.new }
 {
     lawful(store);
     let proto = store.host(HostEntry::ObjectPrototype);
     let bubble = store.host(HostEntry::Native(NativeId::Bubble));
     let pairs = event_pairs(alloc, dispatch, bubble)?;
-    made(make(alloc, store, w, NewCell::ObjectWith { proto, pairs })?)
+    made(make(alloc, store, w.index, NewCell::ObjectWith { proto, pairs })?)
 }
 
 // The Bunch of one node.
 fn make_bunch_of(
     alloc: Global,
     store: &mut Store,
-    w: u32,
+    w: WidgetId,
     page: &Page,
     node: NodeId,
 ) -> Result<CellId, Memory>
-    requires widget { w < 32 }
-    requires sound { (l : Loop) × IsSound w store.old page.now l }
-    requires own { owns page.now w node ≡ true }
+    requires sound { (l : Loop) × IsSound w.index store.old page.now l }
+    requires own { owns page.now w.index node ≡ true }
     ensures born { IfOk result
-        (λ e. Changes w store.old store.new page.now
-        (born (new_bunch (number page.now w node ∷ [])) (object_cost 2))) }
-    ensures next { IfOk result (λ e. IsNext w store.old store.new page.now e) }
-    ensures held { IfOk result (λ e. IsHeld w store.new.cells e) }
-    ensures sound { (l : Loop) → IsSound w store.old page.now l → IsSound w store.new page.now l }
-    ensures kept { KeepsStore w store.old store.new }
+        (λ e. Changes w.index store.old store.new page.now
+        (born (new_bunch (number page.now w.index node ∷ [])) (object_cost 2))) }
+    ensures next { IfOk result (λ e. IsNext w.index store.old store.new page.now e) }
+    ensures held { IfOk result (λ e. IsHeld w.index store.new.cells e) }
+    ensures sound { (l : Loop) → IsSound w.index store.old page.now l → IsSound w.index store.new page.now l }
+    ensures kept { KeepsStore w.index store.old store.new }
 {
     let mut nodes = Vec::new(alloc);
     nodes.push(node)?;
-    let id = WidgetId { index: w };
-    made(make_bunch(alloc, store, id, page, nodes)?)
+    made(make_bunch(alloc, store, w, page, nodes)?)
 }
 
 // A Bunch under a name that an event object has.
-fn fill(store: &mut Store, w: u32, event: CellId, name: &Text, bunch: CellId) -> Result<(), Memory>
-    requires widget { w < 32 }
-    requires event { IsHeld w store.old.cells event }
-    requires bunch { IsHeld w store.old.cells bunch }
+fn fill(
+    store: &mut Store,
+    w: WidgetId,
+    event: CellId,
+    name: &Text,
+    bunch: CellId,
+) -> Result<(), Memory>
+    requires event { IsHeld w.index store.old.cells event }
+    requires bunch { IsHeld w.index store.old.cells bunch }
     ensures filled { OnOk result
         ((p : PageTree) (fs : List Forest) (x : Outside) (l : Loop) (b : Option Bool) (n : ℕ) (ps : Pairs)
-        → IsSound w store.old p l → seen w store.old.cells (value.Ref event) ≡ Own n
-        → cell_at (image fs x w (beside store.old p l b)) n ≡ plain_object ps → is_some (lookup ps name.now) ≡ true
-        → with_cell (image fs x w (beside store.old p l b)) n
-        (plain_object (replaced ps name.now (seen w store.old.cells (value.Ref bunch))))
-        ≡ image fs x w (beside store.new p l b)) }
-    ensures kept { (fs : List Forest) → Kept fs w store.old store.new }
+        → IsSound w.index store.old p l → seen w.index store.old.cells (value.Ref event) ≡ Own n
+        → cell_at (image fs x w.index (beside store.old p l b)) n ≡ plain_object ps → is_some (lookup ps name.now) ≡ true
+        → with_cell (image fs x w.index (beside store.old p l b)) n
+        (plain_object (replaced ps name.now (seen w.index store.old.cells (value.Ref bunch))))
+        ≡ image fs x w.index (beside store.new p l b)) }
+    ensures kept { (fs : List Forest) → Kept fs w.index store.old store.new }
 {
-    done(put(store, w, &Value::Ref(event), name, Value::Ref(bunch))?)
+    done(put(store, w.index, &Value::Ref(event), name, Value::Ref(bunch))?)
 }
 
 /// The event object of a dispatch at a node, with its Bunches; that it can be paid is known before.
 pub(crate) fn make_event(
     alloc: Global,
     store: &mut Store,
-    w: u32,
+    w: WidgetId,
     page: &Page,
     dispatch: &Dispatch,
     node: NodeId,
 ) -> Result<CellId, Memory>
-    requires widget { w < 32 }
-    requires sound { (l : Loop) × IsSound w store.old page.now l }
-    requires dispatch { FineDispatch w store.old.cells page.now dispatch.now }
-    requires own { owns page.now w node ≡ true }
-    ensures born { IfOk result (λ e. Changes w store.old store.new page.now
+    requires sound { (l : Loop) × IsSound w.index store.old page.now l }
+    requires dispatch { FineDispatch w.index store.old.cells page.now dispatch.now }
+    requires own { owns page.now w.index node ≡ true }
+    ensures born { IfOk result (λ e. Changes w.index store.old store.new page.now
         (λ s. with_event (with_counts s (costs.sum s.own.counts event_cost)) dispatch.now.kind
-        (number page.now w dispatch.now.target) (number page.now w node)
-        (seen w store.old.cells dispatch.now.value))) }
-    ensures next { IfOk result (λ e. IsNext w store.old store.new page.now e) }
-    ensures held { IfOk result (λ e. IsHeld w store.new.cells e) }
-    ensures sound { (l : Loop) → IsSound w store.old page.now l → IsSound w store.new page.now l }
-    ensures kept { KeepsStore w store.old store.new }
+        (number page.now w.index dispatch.now.target) (number page.now w.index node)
+        (seen w.index store.old.cells dispatch.now.value))) }
+    ensures next { IfOk result (λ e. IsNext w.index store.old store.new page.now e) }
+    ensures held { IfOk result (λ e. IsHeld w.index store.new.cells e) }
+    ensures sound { (l : Loop) → IsSound w.index store.old page.now l → IsSound w.index store.new page.now l }
+    ensures kept { KeepsStore w.index store.old store.new }
 {
     let first = word(alloc, b"target")?;
     let second = word(alloc, b"that")?;

@@ -20,6 +20,7 @@ ghost use Rattle.turn_dispatch.specs.Levels.{heard_plan};
 use crate::events::{make_event, refusal};
 use crate::level::{Dispatch, Heard, Hearing};
 use code_units::Memory;
+use native_common::WidgetId;
 use object_store::{CellId, Store};
 use page_tree::{NodeId, Page};
 use std::alloc::Global;
@@ -28,30 +29,29 @@ use std::alloc::Global;
 fn announce(
     alloc: Global,
     store: &mut Store,
-    w: u32,
+    w: WidgetId,
     page: &Page,
     dispatch: Dispatch,
     at: (NodeId, Vec<CellId>),
 ) -> Result<Box<Hearing>, Memory>
-    requires widget { w < 32 }
-    requires sound { (l : Loop) × IsSound w store.old page.now l }
-    requires dispatch { FineDispatch w store.old.cells page.now dispatch }
-    requires own { owns page.now w at.0 ≡ true }
-    requires functions { AllByRecursion (IsOwnCell w store.old.cells) at.1.items }
+    requires sound { (l : Loop) × IsSound w.index store.old page.now l }
+    requires dispatch { FineDispatch w.index store.old.cells page.now dispatch }
+    requires own { owns page.now w.index at.0 ≡ true }
+    requires functions { AllByRecursion (IsOwnCell w.index store.old.cells) at.1.items }
     requires some { 0 < length at.1.items }
     requires paid { (fs : List Forest) (r : Rest) (k : State → Plan)
-        → costs.pay event_cost (store_image fs r w store.old) k
-        ≡ k (with_counts (store_image fs r w store.old)
-        (costs.sum (store_image fs r w store.old).own.counts event_cost)) }
+        → costs.pay event_cost (store_image fs r w.index store.old) k
+        ≡ k (with_counts (store_image fs r w.index store.old)
+        (costs.sum (store_image fs r w.index store.old).own.counts event_cost)) }
     ensures plan { IfOk result (λ h. (fs : List Forest) (x : Outside) (l : Loop) (b : Option Bool)
-        → IsSound w store.old page.now l
-        → meaning.hear dispatch.kind (number page.now w dispatch.target)
-        (seen w store.old.cells dispatch.value) dispatch.depth (number page.now w at.0)
-        (map (own_count w store.old.cells) at.1.items) (image fs x w (beside store.old page.now l b))
-        ≡ heard_plan w store.new.cells page.now (Heard.Calls h) (image fs x w (beside store.new page.now l b))) }
-    ensures fine { IfOk result (λ h. FineHearing w store.new.cells page.now h.value) }
-    ensures sound { (l : Loop) → IsSound w store.old page.now l → IsSound w store.new page.now l }
-    ensures kept { KeepsStore w store.old store.new }
+        → IsSound w.index store.old page.now l
+        → meaning.hear dispatch.kind (number page.now w.index dispatch.target)
+        (seen w.index store.old.cells dispatch.value) dispatch.depth (number page.now w.index at.0)
+        (map (own_count w.index store.old.cells) at.1.items) (image fs x w.index (beside store.old page.now l b))
+        ≡ heard_plan w.index store.new.cells page.now (Heard.Calls h) (image fs x w.index (beside store.new page.now l b))) }
+    ensures fine { IfOk result (λ h. FineHearing w.index store.new.cells page.now h.value) }
+    ensures sound { (l : Loop) → IsSound w.index store.old page.now l → IsSound w.index store.new page.now l }
+    ensures kept { KeepsStore w.index store.old store.new }
 {
     let (node, handlers) = at;
     let event = make_event(alloc, store, w, page, &dispatch, node)?;
@@ -69,26 +69,25 @@ fn announce(
 pub fn hear(
     alloc: Global,
     store: &mut Store,
-    w: u32,
+    w: WidgetId,
     page: &Page,
     dispatch: Dispatch,
     at: (NodeId, Vec<CellId>),
 ) -> Result<Heard, Memory>
-    requires widget { w < 32 }
-    requires sound { (l : Loop) × IsSound w store.old page.now l }
-    requires dispatch { FineDispatch w store.old.cells page.now dispatch }
-    requires own { owns page.now w at.0 ≡ true }
-    requires functions { AllByRecursion (IsOwnCell w store.old.cells) at.1.items }
+    requires sound { (l : Loop) × IsSound w.index store.old page.now l }
+    requires dispatch { FineDispatch w.index store.old.cells page.now dispatch }
+    requires own { owns page.now w.index at.0 ≡ true }
+    requires functions { AllByRecursion (IsOwnCell w.index store.old.cells) at.1.items }
     requires some { 0 < length at.1.items }
     ensures plan { IfOk result (λ h. (fs : List Forest) (x : Outside) (l : Loop) (b : Option Bool)
-        → IsSound w store.old page.now l
-        → meaning.hear dispatch.kind (number page.now w dispatch.target)
-        (seen w store.old.cells dispatch.value) dispatch.depth (number page.now w at.0)
-        (map (own_count w store.old.cells) at.1.items) (image fs x w (beside store.old page.now l b))
-        ≡ heard_plan w store.new.cells page.now h (image fs x w (beside store.new page.now l b))) }
-    ensures fine { IfOk result (λ h. FineHeard w store.new.cells page.now h) }
-    ensures sound { (l : Loop) → IsSound w store.old page.now l → IsSound w store.new page.now l }
-    ensures kept { KeepsStore w store.old store.new }
+        → IsSound w.index store.old page.now l
+        → meaning.hear dispatch.kind (number page.now w.index dispatch.target)
+        (seen w.index store.old.cells dispatch.value) dispatch.depth (number page.now w.index at.0)
+        (map (own_count w.index store.old.cells) at.1.items) (image fs x w.index (beside store.old page.now l b))
+        ≡ heard_plan w.index store.new.cells page.now h (image fs x w.index (beside store.new page.now l b))) }
+    ensures fine { IfOk result (λ h. FineHeard w.index store.new.cells page.now h) }
+    ensures sound { (l : Loop) → IsSound w.index store.old page.now l → IsSound w.index store.new page.now l }
+    ensures kept { KeepsStore w.index store.old store.new }
 {
     match refusal(store, w) {
         Some(cause) => Ok(Heard::Stop(cause)),

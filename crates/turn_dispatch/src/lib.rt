@@ -7,8 +7,10 @@ mod hearing;
 mod level;
 mod opening;
 mod searching;
+mod site;
 
 pub use hearing::hear;
 pub use level::{Dispatch, Doing, Firing, Heard, Hearing, Level};
 pub use opening::open_script;
 pub use searching::{listeners, search};
+pub use site::Site;

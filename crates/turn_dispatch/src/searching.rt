@@ -19,19 +19,20 @@ ghost use Rattle.turn_dispatch.specs.Levels.{searched_plan};
 
 use crate::hearing::hear;
 use crate::level::{Dispatch, Heard};
+use crate::site::Site;
 use code_units::{Memory, Owner, Text};
 use event_loop::Loop;
+use native_common::WidgetId;
 use object_store::{CellId, Store};
 use page_tree::{NodeId, Page};
 use std::alloc::Global;
 
 // The root of a widget.
-fn root_of(page: &Page, w: u32) -> NodeId
-    requires widget { w < 32 }
-    requires home { HasRoot page.now w }
-    ensures { root_of page.now w ≡ Some result }
+fn root_of(page: &Page, w: WidgetId) -> NodeId
+    requires { HasRoot page.now w.index }
+    ensures { root_of page.now w.index ≡ Some result }
 {
-    match page.root_of(Owner::Widget(w)) {
+    match page.root_of(Owner::Widget(w.index)) {
         Some(root) => root,
         None => unreachable!(),
     }
@@ -41,20 +42,19 @@ fn root_of(page: &Page, w: u32) -> NodeId
 /// widget's, and there are some.
 pub fn listeners(
     alloc: Global,
-    w: u32,
+    w: WidgetId,
     page: &Page,
     around: &Loop,
     node: Option<NodeId>,
     kind: &Text,
 ) -> Result<Option<(NodeId, Vec<CellId>)>, Memory>
-    requires widget { w < 32 }
-    requires home { HasRoot page.now w }
-    requires own { OptionIn (owns page.now w) node }
-    ensures image { IfOk result (λ found. (g : ℕ → ℕ) (s : State) → Shows page.now w g around.now s.own
-        → own_found (number page.now w) g (found_of found)
-        ≡ meaning.nearest s (renumbered (number page.now w) node) kind.now) }
-    ensures own { IfOk result (λ found. (s : Cells) → HoldsOwn w s page.now around.now
-        → IfSome found (λ at. (owns page.now w at.0 ≡ true) × AllByRecursion (IsOwnCell w s.cells) at.1.items
+    requires home { HasRoot page.now w.index }
+    requires own { OptionIn (owns page.now w.index) node }
+    ensures image { IfOk result (λ found. (g : ℕ → ℕ) (s : State) → Shows page.now w.index g around.now s.own
+        → own_found (number page.now w.index) g (found_of found)
+        ≡ meaning.nearest s (renumbered (number page.now w.index) node) kind.now) }
+    ensures own { IfOk result (λ found. (s : Cells) → HoldsOwn w.index s page.now around.now
+        → IfSome found (λ at. (owns page.now w.index at.0 ≡ true) × AllByRecursion (IsOwnCell w.index s.cells) at.1.items
         × (0 < length at.1.items))) }
 {
     around.nearest(alloc, page, root_of(page, w), node, kind)
@@ -64,27 +64,25 @@ pub fn listeners(
 pub fn search(
     alloc: Global,
     store: &mut Store,
-    w: u32,
-    page: &Page,
-    around: &Loop,
+    site: &Site,
     dispatch: Dispatch,
     from: Option<NodeId>,
 ) -> Result<Option<Heard>, Memory>
-    requires widget { w < 32 }
-    requires sound { IsSound w store.old page.now around.now }
-    requires dispatch { FineDispatch w store.old.cells page.now dispatch }
-    requires own { OptionIn (owns page.now w) from }
-    ensures plan { IfOk result (λ o. (fs : List Forest) (x : Outside) (b : Option Bool)
-        → meaning.search_from (renumbered (number page.now w) from) dispatch.kind (number page.now w dispatch.target)
-        (seen w store.old.cells dispatch.value) dispatch.depth
-        (image fs x w (beside store.old page.now around.now b))
-        ≡ searched_plan w store.new.cells page.now o (image fs x w (beside store.new page.now around.now b))) }
-    ensures fine { IfOk result (λ o. IfSome o (FineHeard w store.new.cells page.now)) }
-    ensures sound { (l : LoopOf) → IsSound w store.old page.now l → IsSound w store.new page.now l }
-    ensures kept { KeepsStore w store.old store.new }
+    requires sound { IsSound site.now.id.index store.old site.now.page.now site.now.around.now }
+    requires dispatch { FineDispatch site.now.id.index store.old.cells site.now.page.now dispatch }
+    requires own { OptionIn (owns site.now.page.now site.now.id.index) from }
+    ensures plan { let w = site.now.id.index in let p = site.now.page.now in let l = site.now.around.now in
+        IfOk result (λ o. (fs : List Forest) (x : Outside) (b : Option Bool)
+        → meaning.search_from (renumbered (number p w) from) dispatch.kind (number p w dispatch.target)
+        (seen w store.old.cells dispatch.value) dispatch.depth (image fs x w (beside store.old p l b))
+        ≡ searched_plan w store.new.cells p o (image fs x w (beside store.new p l b))) }
+    ensures fine { IfOk result (λ o. IfSome o (FineHeard site.now.id.index store.new.cells site.now.page.now)) }
+    ensures sound { (l : LoopOf) → IsSound site.now.id.index store.old site.now.page.now l
+        → IsSound site.now.id.index store.new site.now.page.now l }
+    ensures kept { KeepsStore site.now.id.index store.old store.new }
 {
-    match listeners(alloc, w, page, around, from, &dispatch.kind)? {
+    match listeners(alloc, site.id, site.page, site.around, from, &dispatch.kind)? {
         None => Ok(None),
-        Some(at) => Ok(Some(hear(alloc, store, w, page, dispatch, at)?)),
+        Some(at) => Ok(Some(hear(alloc, store, site.id, site.page, dispatch, at)?)),
     }
 }

@@ -1,5 +1,5 @@
 //! How a turn goes on when a call has ended.
-ghost use Rattle.std.specs.Prelude.{◌≡◌, ℕ, ◌+◌, ◌<◌, ◌≤◌, IfOk, List};
+ghost use Rattle.std.specs.Prelude.{◌≡◌, ℕ, ◌+◌, ◌≤◌, IfOk, List};
 ghost use Rattle.js_tree.specs.Forest.{Forest};
 ghost use Rattle.store_cells.specs.Cells.{Cells};
 ghost use Rattle.widget_meaning.specs.Dispatch.{is_bubbled, without_dispatch};
@@ -17,13 +17,13 @@ ghost use Rattle.turn_returns.specs.Turns.{turn_image};
 ghost use Rattle.turn_returns.specs.Waiting.{FineFiring, FineLevel, FineLevels};
 ghost use Rattle.turn_returns.specs.Weights.{doing_free, is_value, levels_free};
 
-use crate::calls::{Calls, Site, Took};
+use crate::calls::{Calls, Took};
 use crate::taking::{call_handler, end_dispatch, fire, keeps, waits};
 use code_units::Memory;
 use js_flow::Completion;
 use object_store::Store;
 use std::alloc::Global;
-use turn_dispatch::{Doing, Firing, Hearing, Level};
+use turn_dispatch::{Doing, Firing, Hearing, Level, Site};
 
 // Whether a call gave a value.
 fn is_value(how: &Completion) -> bool
@@ -42,14 +42,13 @@ fn take_fires(
     at: (Box<Firing>, usize),
     how: Completion,
 ) -> Result<Took, Memory>
-    requires widget { site.now.widget < 32 }
-    requires sound { IsSound site.now.widget store.old site.now.page.now site.now.around.now }
-    requires firing { FineFiring site.now.widget store.old.cells site.now.page.now at.0.value }
-    requires how { FineEnd site.now.widget store.old.cells how }
+    requires sound { IsSound site.now.id.index store.old site.now.page.now site.now.around.now }
+    requires firing { FineFiring site.now.id.index store.old.cells site.now.page.now at.0.value }
+    requires how { FineEnd site.now.id.index store.old.cells how }
     ensures taken { IfOk result
-        (IsTaken site.now.widget site.now.page.now site.now.around.now store.old store.new calls.old calls.new
+        (IsTaken site.now.id.index site.now.page.now site.now.around.now store.old store.new calls.old calls.new
         (level.Fires at.0 at.1) how) }
-    ensures kept { StaysSound site.now.widget site.now.page.now store.old store.new }
+    ensures kept { StaysSound site.now.id.index site.now.page.now store.old store.new }
 {
     let (firing, next) = at;
     if !is_value(&how) {
@@ -86,14 +85,13 @@ fn take_hears(
     at: (Box<Hearing>, usize),
     how: Completion,
 ) -> Result<Took, Memory>
-    requires widget { site.now.widget < 32 }
-    requires sound { IsSound site.now.widget store.old site.now.page.now site.now.around.now }
-    requires hearing { FineHearing site.now.widget store.old.cells site.now.page.now at.0.value }
-    requires how { FineEnd site.now.widget store.old.cells how }
+    requires sound { IsSound site.now.id.index store.old site.now.page.now site.now.around.now }
+    requires hearing { FineHearing site.now.id.index store.old.cells site.now.page.now at.0.value }
+    requires how { FineEnd site.now.id.index store.old.cells how }
     ensures taken { IfOk result
-        (IsTaken site.now.widget site.now.page.now site.now.around.now store.old store.new calls.old calls.new
+        (IsTaken site.now.id.index site.now.page.now site.now.around.now store.old store.new calls.old calls.new
         (level.Hears at.0 at.1) how) }
-    ensures kept { StaysSound site.now.widget site.now.page.now store.old store.new }
+    ensures kept { StaysSound site.now.id.index site.now.page.now store.old store.new }
 {
     let (hearing, next) = at;
     if !is_value(&how) {
@@ -101,7 +99,7 @@ fn take_hears(
         return Ok(Took::Gives(how));
     }
     if next < hearing.handlers.len() {
-        let task = call_handler(alloc, site.widget, &hearing, next)?;
+        let task = call_handler(alloc, site.id, &hearing, next)?;
         calls.levels.push(Level::Hears(hearing, next + 1))?;
         return Ok(Took::Runs(task));
     }
@@ -119,17 +117,16 @@ fn take(
     level: Level,
     how: Completion,
 ) -> Result<Took, Memory>
-    requires widget { site.now.widget < 32 }
-    requires sound { IsSound site.now.widget store.old site.now.page.now site.now.around.now }
-    requires level { (fs : List Forest) × FineLevel fs site.now.widget store.old.cells site.now.page.now level }
-    requires how { FineEnd site.now.widget store.old.cells how }
+    requires sound { IsSound site.now.id.index store.old site.now.page.now site.now.around.now }
+    requires level { (fs : List Forest) × FineLevel fs site.now.id.index store.old.cells site.now.page.now level }
+    requires how { FineEnd site.now.id.index store.old.cells how }
     ensures taken { IfOk result
-        (IsTaken site.now.widget site.now.page.now site.now.around.now store.old store.new calls.old calls.new level
+        (IsTaken site.now.id.index site.now.page.now site.now.around.now store.old store.new calls.old calls.new level
         how) }
-    ensures kept { StaysSound site.now.widget site.now.page.now store.old store.new }
+    ensures kept { StaysSound site.now.id.index site.now.page.now store.old store.new }
 {
     match level {
-        Level::Keeps(lib, name) => keeps(alloc, store, site.widget, lib, &name, how),
+        Level::Keeps(lib, name) => keeps(alloc, store, site.id, lib, &name, how),
         Level::Waits(task) => Ok(waits(task, how)),
         Level::Fires(firing, next) => take_fires(alloc, store, site, calls, (firing, next), how),
         Level::Hears(hearing, next) => take_hears(alloc, store, site, calls, (hearing, next), how),
@@ -145,25 +142,24 @@ pub fn give(
     calls: &mut Calls,
     how: Completion,
 ) -> Result<Doing, Memory>
-    requires widget { site.now.widget < 32 }
-    requires sound { IsSound site.now.widget store.old site.now.page.now site.now.around.now }
+    requires sound { IsSound site.now.id.index store.old site.now.page.now site.now.around.now }
     requires levels { (fs : List Forest)
-        × FineLevels fs site.now.widget store.old.cells site.now.page.now calls.old.levels.items }
-    requires how { FineEnd site.now.widget store.old.cells how }
-    ensures plan { let w = site.now.widget in let p = site.now.page.now in let l = site.now.around.now in
+        × FineLevels fs site.now.id.index store.old.cells site.now.page.now calls.old.levels.items }
+    requires how { FineEnd site.now.id.index store.old.cells how }
+    ensures plan { let w = site.now.id.index in let p = site.now.page.now in let l = site.now.around.now in
         IfOk result (λ d. (fs : List Forest) (x : Outside) → FineLevels fs w store.old.cells p calls.old.levels.items
         → levels_rest fs w store.old.cells p calls.old.levels.items (completion_of w store.old.cells how)
         (turn_image fs x w store.old p l calls.old.dispatches.items)
         ≡ turn_plan fs w store.new.cells p d calls.new.levels.items
         (turn_image fs x w store.new p l calls.new.dispatches.items)) }
-    ensures fine { let w = site.now.widget in let p = site.now.page.now in
+    ensures fine { let w = site.now.id.index in let p = site.now.page.now in
         IfOk result (λ d. (fs : List Forest) → FineLevels fs w store.old.cells p calls.old.levels.items
         → FineDoing fs w store.new p d × FineLevels fs w store.new.cells p calls.new.levels.items) }
     ensures near { IfOk result
         (λ d. doing_free d + levels_free calls.new.levels.items ≤ levels_free calls.old.levels.items + 1) }
-    ensures sound { (l : LoopOf) → IsSound site.now.widget store.old site.now.page.now l
-        → IsSound site.now.widget store.new site.now.page.now l }
-    ensures kept { KeepsStore site.now.widget store.old store.new }
+    ensures sound { (l : LoopOf) → IsSound site.now.id.index store.old site.now.page.now l
+        → IsSound site.now.id.index store.new site.now.page.now l }
+    ensures kept { KeepsStore site.now.id.index store.old store.new }
 {
     let mut how = how;
     'levels: while let Some(level) = calls.levels.pop() {

@@ -7,7 +7,7 @@ mod giving;
 mod taking;
 mod turn;
 
-pub use calls::{Calls, Site};
+pub use calls::Calls;
 pub use giving::give;
 pub use taking::call_handler;
-pub use turn::{Shared, Turn, Widget};
+pub use turn::Turn;

@@ -27,32 +27,32 @@ ghost use Rattle.turn_returns.specs.Took.{FineTook, IsNext, IsStored, StaysSound
 ghost use Rattle.turn_returns.specs.Weights.{level_free, took_free};
 ghost use Rattle.turn_dispatch.specs.declared.level.Level.TheVariants as level;
 
-use crate::calls::{Site, Took};
+use crate::calls::Took;
 use code_units::{Memory, Text};
 use js_flow::{Args, Call, Completion, Control, Job};
 use js_image::{Fault, Made, Written, make_fault, put};
 use js_steps::{Frames, Task};
+use native_common::WidgetId;
 use object_store::{CellId, Store, Value};
 use page_image::parent;
 use std::alloc::Global;
-use turn_dispatch::{Dispatch, Firing, Heard, Hearing, search};
+use turn_dispatch::{Dispatch, Firing, Heard, Hearing, Site, search};
 
 // The value of a library's function is kept in `lib`, under the library's name.
 pub(crate) fn keeps(
     alloc: Global,
     store: &mut Store,
-    w: u32,
+    w: WidgetId,
     lib: CellId,
     name: &Text,
     how: Completion,
 ) -> Result<Took, Memory>
-    requires widget { w < 32 }
-    requires lib { IsHeld w store.old.cells lib }
-    requires how { FineEnd w store.old.cells how }
-    ensures next { IfOk result (IsStored w store.old store.new
-        (after (λ v s. properties.put (seen w store.old.cells (Value.Ref lib)) name.now v s (costs.give Undefined))
-        (completion_of w store.old.cells how))) }
-    ensures kept { (fs : List Forest) → Kept fs w store.old store.new }
+    requires lib { IsHeld w.index store.old.cells lib }
+    requires how { FineEnd w.index store.old.cells how }
+    ensures next { IfOk result (IsStored w.index store.old store.new
+        (after (λ v s. properties.put (seen w.index store.old.cells (Value.Ref lib)) name.now v s (costs.give Undefined))
+        (completion_of w.index store.old.cells how))) }
+    ensures kept { (fs : List Forest) → Kept fs w.index store.old store.new }
 {
     match how {
         Completion::Is(value) => keep(alloc, store, w, lib, name, value),
@@ -64,20 +64,19 @@ pub(crate) fn keeps(
 fn keep(
     alloc: Global,
     store: &mut Store,
-    w: u32,
+    w: WidgetId,
     lib: CellId,
     name: &Text,
     value: Value,
 ) -> Result<Took, Memory>
-    requires widget { w < 32 }
-    requires lib { IsHeld w store.old.cells lib }
-    requires value { IsFine w store.old.cells value }
-    ensures next { IfOk result (IsStored w store.old store.new
-        (λ s. properties.put (seen w store.old.cells (Value.Ref lib)) name.now (seen w store.old.cells value) s
+    requires lib { IsHeld w.index store.old.cells lib }
+    requires value { IsFine w.index store.old.cells value }
+    ensures next { IfOk result (IsStored w.index store.old store.new
+        (λ s. properties.put (seen w.index store.old.cells (Value.Ref lib)) name.now (seen w.index store.old.cells value) s
         (costs.give Undefined))) }
-    ensures kept { (fs : List Forest) → Kept fs w store.old store.new }
+    ensures kept { (fs : List Forest) → Kept fs w.index store.old store.new }
 {
-    match put(store, w, &Value::Ref(lib), name, value)? {
+    match put(store, w.index, &Value::Ref(lib), name, value)? {
         Written::Done => Ok(Took::Gives(Completion::Is(Value::Undefined))),
         Written::Stop(cause) => Ok(Took::Stops(cause)),
         Written::Throw(fault) => throw(alloc, store, w, fault),
@@ -85,12 +84,11 @@ fn keep(
 }
 
 // A fault is thrown as a new object.
-fn throw(alloc: Global, store: &mut Store, w: u32, fault: Fault) -> Result<Took, Memory>
-    requires widget { w < 32 }
-    ensures next { IfOk result (IsStored w store.old store.new (costs.throw (meant_fault fault))) }
-    ensures kept { (fs : List Forest) → Kept fs w store.old store.new }
+fn throw(alloc: Global, store: &mut Store, w: WidgetId, fault: Fault) -> Result<Took, Memory>
+    ensures next { IfOk result (IsStored w.index store.old store.new (costs.throw (meant_fault fault))) }
+    ensures kept { (fs : List Forest) → Kept fs w.index store.old store.new }
 {
-    match make_fault(alloc, store, w, fault)? {
+    match make_fault(alloc, store, w.index, fault)? {
         Made::Cell(cell) => Ok(Took::Gives(Completion::Throw(Value::Ref(cell)))),
         Made::Stop(cause) => Ok(Took::Stops(cause)),
     }
@@ -129,18 +127,18 @@ fn event_args(alloc: Global, event: CellId) -> Result<Args, Memory>
 /// The handler of a dispatch with a number is called next. What is called has yet to take its first unit.
 pub fn call_handler(
     alloc: Global,
-    w: u32,
+    w: WidgetId,
     hearing: &Hearing,
     next: usize,
 ) -> Result<Box<Task>, Memory>
     requires { next < length hearing.now.handlers.items }
     ensures plan { IfOk result (λ t. (fs : List Forest) (s : Cells) (p : PageTree) (r : Rest)
-        → FineHearing w s.cells p hearing.now
-        → remaining fs w s t.value r
-        ≡ Do (plan.Call (Own (get_or (functions_of w s.cells p hearing.now) next 0)) None
-        ((hearing_of w s.cells p hearing.now).event ∷ []) hearing.now.dispatch.depth) (store_image fs r w s) Ret) }
+        → FineHearing w.index s.cells p hearing.now
+        → remaining fs w.index s t.value r
+        ≡ Do (plan.Call (Own (get_or (functions_of w.index s.cells p hearing.now) next 0)) None
+        ((hearing_of w.index s.cells p hearing.now).event ∷ []) hearing.now.dispatch.depth) (store_image fs r w.index s) Ret) }
     ensures fine { IfOk result (λ t. (fs : List Forest) (s : Cells) (p : PageTree)
-        → FineHearing w s.cells p hearing.now → FineTask fs w s p t.value) }
+        → FineHearing w.index s.cells p hearing.now → FineTask fs w.index s p t.value) }
     ensures free { IfOk result (λ t. free t.value.control t.value.frames.list.items ≡ 0) }
 {
     let call = Call {
@@ -150,7 +148,7 @@ pub fn call_handler(
         depth: hearing.dispatch.depth,
     };
     let task = Task {
-        widget: w,
+        widget: w.index,
         control: Control::Do(Job::Call(Box::new(alloc, call)?)),
         frames: Frames::new(alloc),
     };
@@ -166,28 +164,19 @@ pub(crate) fn end_dispatch(
     hearing: Box<Hearing>,
     bubbled: bool,
 ) -> Result<Took, Memory>
-    requires widget { site.now.widget < 32 }
-    requires sound { IsSound site.now.widget store.old site.now.page.now site.now.around.now }
-    requires hearing { FineHearing site.now.widget store.old.cells site.now.page.now hearing.value }
-    ensures next { let w = site.now.widget in let p = site.now.page.now in
+    requires sound { IsSound site.now.id.index store.old site.now.page.now site.now.around.now }
+    requires hearing { FineHearing site.now.id.index store.old.cells site.now.page.now hearing.value }
+    ensures next { let w = site.now.id.index in let p = site.now.page.now in
         IfOk result (IsNext w p site.now.around.now store.old store.new
         (bubble_on bubbled (hearing_of w store.old.cells p hearing.value))) }
-    ensures kept { StaysSound site.now.widget site.now.page.now store.old store.new }
+    ensures kept { StaysSound site.now.id.index site.now.page.now store.old store.new }
 {
     if !bubbled {
         return Ok(Took::Gives(Completion::Is(Value::Undefined)));
     }
-    let from = parent(site.page, site.widget, hearing.node);
+    let from = parent(site.page, site.id.index, hearing.node);
     let dispatch = again(&hearing.dispatch)?;
-    let found = search(
-        alloc,
-        store,
-        site.widget,
-        site.page,
-        site.around,
-        dispatch,
-        from,
-    )?;
+    let found = search(alloc, store, site, dispatch, from)?;
     Ok(took_of(found))
 }
 
@@ -227,14 +216,13 @@ pub(crate) fn fire(
     firing: &Firing,
     next: usize,
 ) -> Result<Took, Memory>
-    requires widget { site.now.widget < 32 }
-    requires sound { IsSound site.now.widget store.old site.now.page.now site.now.around.now }
-    requires firing { FineFiring site.now.widget store.old.cells site.now.page.now firing.now }
+    requires sound { IsSound site.now.id.index store.old site.now.page.now site.now.around.now }
+    requires firing { FineFiring site.now.id.index store.old.cells site.now.page.now firing.now }
     requires there { next < length firing.now.nodes.items }
-    ensures next { let w = site.now.widget in let p = site.now.page.now in let f = firing.now in
+    ensures next { let w = site.now.id.index in let p = site.now.page.now in let f = firing.now in
         IfOk result (IsNext w p site.now.around.now store.old store.new
         (meaning.dispatch f.kind (number p w (get_or f.nodes.items next 0)) Undefined f.depth)) }
-    ensures kept { StaysSound site.now.widget site.now.page.now store.old store.new }
+    ensures kept { StaysSound site.now.id.index site.now.page.now store.old store.new }
 {
     let node = firing.nodes[next];
     let dispatch = Dispatch {
@@ -243,14 +231,6 @@ pub(crate) fn fire(
         value: Value::Undefined,
         depth: firing.depth,
     };
-    let found = search(
-        alloc,
-        store,
-        site.widget,
-        site.page,
-        site.around,
-        dispatch,
-        Some(node),
-    )?;
+    let found = search(alloc, store, site, dispatch, Some(node))?;
     Ok(took_of(found))
 }

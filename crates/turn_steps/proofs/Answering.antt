@@ -56,8 +56,8 @@ use Rattle.turn_returns.specs.Turns.{bubbled_of, outside_of, turn_image}
 use Rattle.turn_returns.specs.Waiting.{FineFiring, FineLevels}
 use Rattle.turn_returns.specs.Weights.{doing_free}
 use Rattle.turn_returns.proofs.Stays.{fine_push, levels_fine, levels_last, levels_same}
-use Rattle.turn_returns.specs.declared.turn.Shared.{Shared}
-use Rattle.turn_returns.specs.declared.turn.Widget.{Widget}
+use Rattle.native_image.specs.declared.handed.Shared.{Shared}
+use Rattle.native_image.specs.declared.handed.Widget.{Widget}
 use Rattle.turn_steps.specs.Carrying.{IsAnswered}
 use Rattle.turn_steps.specs.Steps.{IsFollowed}
 use Rattle.turn_steps.specs.Turning.{FineWidget, forests}
@@ -120,56 +120,56 @@ fired_fine fs w cells p below t f firing vs is e same frames awaits fine levels 
 
 -- ## What the answer comes to
 
-module _ (old : Shared) (v : Widget) (lt : v.number < 32) (fine : FineWidget old v) (before after : Calls) (levels : FineLevels (forests old) v.number old.store.cells old.page before.levels.items) where
+module _ (old : Shared) (v : Widget) (lt : v.id.index < 32) (fine : FineWidget old v) (before after : Calls) (levels : FineLevels (forests old) v.id.index old.store.cells old.page before.levels.items) where
   -- the shared things with another store
   abbrev pub over_store : Cells → Shared
   over_store s = record old { store = s }
 
   -- handlers are asked for
   pub fire_answered : (end : Cells) (t : Box Task) (f : Box Firing) (firing : Firing) (vs : List Level) (d : Doing) → f.value ≡ firing → vs ≡ (before.levels.items ++ level.Waits t ∷ []) ++ level.Fires f 0 ∷ []
-      → FineLevels (forests old) v.number old.store.cells old.page vs
-      → ((fs : List Forest) (x : Outside) → FineLevels fs v.number old.store.cells old.page vs
-      → levels_rest fs v.number old.store.cells old.page vs (completion_of v.number old.store.cells (completion.Is value.Undefined)) (turn_image fs x v.number old.store old.page v.around before.dispatches.items)
-      ≡ turn_plan fs v.number end.cells old.page d after.levels.items (turn_image fs x v.number end old.page v.around after.dispatches.items))
-      → ((fs : List Forest) → FineLevels fs v.number old.store.cells old.page vs → FineDoing fs v.number end old.page d × FineLevels fs v.number end.cells old.page after.levels.items)
+      → FineLevels (forests old) v.id.index old.store.cells old.page vs
+      → ((fs : List Forest) (x : Outside) → FineLevels fs v.id.index old.store.cells old.page vs
+      → levels_rest fs v.id.index old.store.cells old.page vs (completion_of v.id.index old.store.cells (completion.Is value.Undefined)) (turn_image fs x v.id.index old.store old.page v.around before.dispatches.items)
+      ≡ turn_plan fs v.id.index end.cells old.page d after.levels.items (turn_image fs x v.id.index end old.page v.around after.dispatches.items))
+      → ((fs : List Forest) → FineLevels fs v.id.index old.store.cells old.page vs → FineDoing fs v.id.index end old.page d × FineLevels fs v.id.index end.cells old.page after.levels.items)
       → doing_free d + levels_free after.levels.items ≤ levels_free vs + 1
       → IsAnswered old (over_store end) v before after t.value firing.depth (native.Call (calls.Fire firing.kind firing.nodes firing.last)) d
   fire_answered end t f firing vs d is e held plan holds near = record {
     plan = λ x.
         let F = forests old in
         let y = with_notes v.log.items v.posts.items x in
-        let s = turn_image F y v.number old.store old.page v.around before.dispatches.items in
-        let o = completion_of v.number old.store.cells (completion.Is value.Undefined) in
-        (λ j. and_then (and_then (given v.number old.store.cells (number old.page v.number) (sym is j).depth (native.Call (calls.Fire (sym is j).kind (sym is j).nodes (sym is j).last)) s) (rest F v.number old.store.cells t.value.frames.list.items)) (levels_rest F v.number old.store.cells old.page before.levels.items))
-        ∙ sym (fired_levels F v.number old.store.cells old.page before.levels.items t f s)
-        ∙ (λ j. levels_rest F v.number old.store.cells old.page (sym e j) o s)
+        let s = turn_image F y v.id.index old.store old.page v.around before.dispatches.items in
+        let o = completion_of v.id.index old.store.cells (completion.Is value.Undefined) in
+        (λ j. and_then (and_then (given v.id.index old.store.cells (number old.page v.id.index) (sym is j).depth (native.Call (calls.Fire (sym is j).kind (sym is j).nodes (sym is j).last)) s) (rest F v.id.index old.store.cells t.value.frames.list.items)) (levels_rest F v.id.index old.store.cells old.page before.levels.items))
+        ∙ sym (fired_levels F v.id.index old.store.cells old.page before.levels.items t f s)
+        ∙ (λ j. levels_rest F v.id.index old.store.cells old.page (sym e j) o s)
         ∙ plan F y held;
     fine = holds (forests old) held;
     near = omega (arith, near, ap levels_free e, free_push (before.levels.items ++ level.Waits t ∷ []) (level.Fires f 0), free_push before.levels.items (level.Waits t));
   }
 
   -- the task goes on
-  pub resume_answered : (mid end : Cells) (t u : Task) (depth : ℕ) (o : NativeOut) (k : Stepped) (d : Doing) → Grows v.number old.store.cells mid.cells
-      → ((r : Rest) → remaining_after (forests old) v.number mid u k r ≡ and_then (given v.number old.store.cells (number old.page v.number) depth o (store_image (forests old) r v.number old.store)) (rest (forests old) v.number old.store.cells t.frames.list.items))
-      → free u.control u.frames.list.items < native_free + frames_free t.frames.list.items → u.widget ≡ v.number → IsFineAfter (forests old) v.number mid u k
-      → IsFollowed v.number old.page v.around mid end before after u k d
+  pub resume_answered : (mid end : Cells) (t u : Task) (depth : ℕ) (o : NativeOut) (k : Stepped) (d : Doing) → Grows v.id.index old.store.cells mid.cells
+      → ((r : Rest) → remaining_after (forests old) v.id.index mid u k r ≡ and_then (given v.id.index old.store.cells (number old.page v.id.index) depth o (store_image (forests old) r v.id.index old.store)) (rest (forests old) v.id.index old.store.cells t.frames.list.items))
+      → free u.control u.frames.list.items < native_free + frames_free t.frames.list.items → u.widget ≡ v.id.index → IsFineAfter (forests old) v.id.index mid u k
+      → IsFollowed v.id.index old.page v.around mid end before after u k d
       → IsAnswered old (over_store end) v before after t depth o d
   resume_answered mid end t u depth o k d grows plan near same held f = record {
     plan = λ x.
         let F = forests old in
         let y = with_notes v.log.items v.posts.items x in
         let ds = before.dispatches.items in
-        let below = levels_rest F v.number old.store.cells old.page before.levels.items in
-        ap (λ q. and_then q below) (sym (plan (outside_rest v.number lt (outside_of y ds) (beside old.store old.page v.around (bubbled_of ds)))))
-        ∙ (λ j. and_then (after_step F v.number mid.cells (machine k) u.control u.frames.list.items (store_lift v.number old.store mid old.page v.around fine.sound.holds grows lt F (outside_of y ds) (bubbled_of ds) j))
-        (sym (levels_same v.number old.store.cells mid.cells grows old.page old.page (λ n h. refl) F before.levels.items levels) j))
+        let below = levels_rest F v.id.index old.store.cells old.page before.levels.items in
+        ap (λ q. and_then q below) (sym (plan (outside_rest v.id.index lt (outside_of y ds) (beside old.store old.page v.around (bubbled_of ds)))))
+        ∙ (λ j. and_then (after_step F v.id.index mid.cells (machine k) u.control u.frames.list.items (store_lift v.id.index old.store mid old.page v.around fine.sound.holds grows lt F (outside_of y ds) (bubbled_of ds) j))
+        (sym (levels_same v.id.index old.store.cells mid.cells grows old.page old.page (λ n h. refl) F before.levels.items levels) j))
         ∙ f.plan F y there;
     fine = f.fine (forests old) same held there;
     near = omega (arith, near, f.near);
   }
     where
-      there : FineLevels (forests old) v.number mid.cells old.page before.levels.items
-      there = levels_fine v.number old.store.cells mid.cells grows old.page old.page (λ n h. refl) (λ n h. h) (forests old) before.levels.items levels
+      there : FineLevels (forests old) v.id.index mid.cells old.page before.levels.items
+      there = levels_fine v.id.index old.store.cells mid.cells grows old.page old.page (λ n h. refl) (λ n h. h) (forests old) before.levels.items levels
 
 -- ## A task that waits
 

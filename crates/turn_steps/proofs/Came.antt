@@ -6,9 +6,9 @@ use Rattle.js_steps.specs.declared.answer.Stop.TheVariants as stop
 use Rattle.js_values.specs.Answers.{out_of_fuel}
 use Rattle.native_image.specs.Image.{Outside}
 use Rattle.life_laws.specs.Life.{Fixed, Runs}
-use Rattle.turn_returns.specs.declared.turn.Shared.{Shared}
+use Rattle.native_image.specs.declared.handed.Shared.{Shared}
 use Rattle.turn_returns.specs.declared.turn.Turn.{Turn}
-use Rattle.turn_returns.specs.declared.turn.Widget.{Widget}
+use Rattle.native_image.specs.declared.handed.Widget.{Widget}
 use Rattle.turn_steps.specs.declared.turn.Ran.{Ran}
 use Rattle.turn_steps.specs.declared.turn.Ran.TheVariants as ran
 use Rattle.turn_steps.specs.declared.turn.TurnEnd.{TurnEnd}
@@ -29,12 +29,12 @@ module _ (k : ℕ) (old new : Shared) (v u : Widget) (t s : Turn) (less : s.left
         by (inl lt) = subst (RanTo k old new v u t s f x) (sym (stops lt)) (record { last = plan_in x new u s; dispatches = s.calls.dispatches.items; less = less; runs = runs; fuel = λ e. lt; out = lacks lt })
         by (inr ge) = subst (RanTo k old new v u t s f x) (sym (cut ge)) (record { less = less; runs = runs; enough = ge; out_of_fuel = none ge })
 
-    pub ran_fine : FineTurn new u.number s → FineRan new u.number s r
+    pub ran_fine : FineTurn new u.id.index s → FineRan new u.id.index s r
     ran_fine fine = by (cases_lt (t.left - s.left) k)
       where
-        by : (t.left - s.left < k) ⊎ (k ≤ t.left - s.left) → FineRan new u.number s r
-        by (inl lt) = subst (FineRan new u.number s) (sym (stops lt)) tt
-        by (inr ge) = subst (FineRan new u.number s) (sym (cut ge)) fine
+        by : (t.left - s.left < k) ⊎ (k ≤ t.left - s.left) → FineRan new u.id.index s r
+        by (inl lt) = subst (FineRan new u.id.index s) (sym (stops lt)) tt
+        by (inr ge) = subst (FineRan new u.id.index s) (sym (cut ge)) fine
 
   -- the turn is over
   pub ran_ended : (how : TurnEnd) (n : ℕ) → n ≡ s.left → (end : Turn) (f : Fixed) (x : Outside) → Runs k (t.left - s.left) (turn_in x old v f t) (turn_in x new u f s) → IsOut x new u s how → (how ≡ ended.Stop stop.Fuel → ⊥) → IsEndedAt k old new v u t end f x how n

@@ -1,5 +1,5 @@
 -- What steps of a turn keep.
-use Rattle.std.proofs.Common.{ℕ, List, ◌∙◌, refl}
+use Rattle.std.proofs.Common.{ℕ, List, ◌∙◌, refl, subst}
 use Rattle.js_tree.specs.Forest.{Forest}
 use Rattle.store_cells.specs.Cells.{Cells}
 use Rattle.page_tree.specs.declared.page.Page.{Page}
@@ -11,8 +11,12 @@ use Rattle.js_image.proofs.Grown.{kept_same}
 use Rattle.native_image.specs.Sound.{HoldsOwn, IsSound, KeepsAll}
 use Rattle.native_image.proofs.Joint.{holds_grows}
 use Rattle.native_image.proofs.Keeping.{grows_next, host_here, page_same, page_then}
+use Rattle.js_names.specs.Code.{trees_of}
+use Rattle.native_image.specs.declared.handed.Shared.{Shared}
+use Rattle.native_image.specs.declared.handed.Widget.{Widget}
 use Rattle.turn_returns.specs.Took.{StaysSound}
-use Rattle.turn_steps.specs.Keeping.{KeepsTurn}
+use Rattle.turn_steps.specs.Keeping.{Keeps, KeepsTurn}
+use Rattle.turn_steps.specs.Turning.{forests}
 
 module _ (fs : List Forest) (w : ℕ) where
   -- what a native keeps
@@ -70,3 +74,13 @@ module _ (fs : List Forest) (w : ℕ) where
     host = host_then p q r f.host g.host;
     holds = g.holds;
   }
+
+-- one step of a widget after the other
+pub keeps_on : (a b c : Shared) (v u x : Widget) → Keeps a b v u → Keeps b c u x → Keeps a c v x
+keeps_on a b c v u x f g = record {
+  turn = keeps_then (forests a) v.id.index a.store b.store c.store a.page b.page c.page u.around x.around f.turn
+      (subst (λ (fs : List Forest). KeepsTurn fs v.id.index b.store c.store b.page c.page x.around) (λ j. trees_of (f.codes j).items)
+      (subst (λ (n : ℕ). KeepsTurn (forests b) n b.store c.store b.page c.page x.around) f.number g.turn));
+  number = g.number ∙ f.number;
+  codes = g.codes ∙ f.codes;
+}

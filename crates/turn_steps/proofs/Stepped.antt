@@ -22,8 +22,8 @@ use Rattle.turn_dispatch.specs.declared.level.Doing.TheVariants as doing
 use Rattle.turn_dispatch.specs.Held.{FineDoing, FineTask}
 use Rattle.turn_dispatch.specs.Levels.{levels_rest, turn_plan}
 use Rattle.turn_returns.specs.declared.calls.Calls.{Calls}
-use Rattle.turn_returns.specs.declared.turn.Shared.{Shared}
-use Rattle.turn_returns.specs.declared.turn.Widget.{Widget}
+use Rattle.native_image.specs.declared.handed.Shared.{Shared}
+use Rattle.native_image.specs.declared.handed.Widget.{Widget}
 use Rattle.turn_returns.specs.Turns.{bubbled_of, outside_of, turn_image}
 use Rattle.turn_returns.specs.Waiting.{FineLevels}
 use Rattle.turn_returns.proofs.Stays.{levels_fine, levels_same}
@@ -36,37 +36,37 @@ no_true : false ≡ true → ⊥
 no_true e = cc
 
 -- what the store does not hold of the widget's state
-abbrev pub rest_in : (h : Shared) (v : Widget) → v.number < 32 → Calls → Outside → Rest
+abbrev pub rest_in : (h : Shared) (v : Widget) → v.id.index < 32 → Calls → Outside → Rest
 rest_in h v lt b x =
     let ds = b.dispatches.items in
-    rest v.number lt (outside_of (with_notes v.log.items v.posts.items x) ds) (beside h.store h.page v.around (bubbled_of ds))
+    rest v.id.index lt (outside_of (with_notes v.log.items v.posts.items x) ds) (beside h.store h.page v.around (bubbled_of ds))
 
 -- the want of fuel of a task, over what waits
-pub short_in : (h : Shared) (v : Widget) (lt : v.number < 32) (b : Calls) (g : ℕ) (x : Outside) (t : Box Task Global)
-    → ((r : Rest) → run_plan g (remaining (forests h) v.number h.store t.value r) ≡ out_of_fuel (image (forests h) r v.number h.store) g)
+pub short_in : (h : Shared) (v : Widget) (lt : v.id.index < 32) (b : Calls) (g : ℕ) (x : Outside) (t : Box Task Global)
+    → ((r : Rest) → run_plan g (remaining (forests h) v.id.index h.store t.value r) ≡ out_of_fuel (image (forests h) r v.id.index h.store) g)
     → run_plan g (doing_in x h v b (doing.Runs t)) ≡ out_of_fuel (state_in x h v b.dispatches.items) g
 short_in h v lt b g x t lacks =
-    short_over g (state_in x h v b.dispatches.items) (remaining (forests h) v.number h.store t.value (rest_in h v lt b x)) (levels_rest (forests h) v.number h.store.cells h.page b.levels.items)
+    short_over g (state_in x h v b.dispatches.items) (remaining (forests h) v.id.index h.store t.value (rest_in h v lt b x)) (levels_rest (forests h) v.id.index h.store.cells h.page b.levels.items)
     (lacks (rest_in h v lt b x))
 
-module _ (old : Shared) (v : Widget) (lt : v.number < 32) (mid new : Cells) (before after : Calls) (fine : FineWidget old v) (levels : FineLevels (forests old) v.number old.store.cells old.page before.levels.items) (kept : Kept (forests old) v.number old.store mid) where
+module _ (old : Shared) (v : Widget) (lt : v.id.index < 32) (mid new : Cells) (before after : Calls) (fine : FineWidget old v) (levels : FineLevels (forests old) v.id.index old.store.cells old.page before.levels.items) (kept : Kept (forests old) v.id.index old.store mid) where
   -- what waits is still the widget's
-  pub levels_stay : FineLevels (forests old) v.number mid.cells old.page before.levels.items
-  levels_stay = levels_fine v.number old.store.cells mid.cells kept.grows old.page old.page (λ n h. refl) (λ n h. h) (forests old) before.levels.items levels
+  pub levels_stay : FineLevels (forests old) v.id.index mid.cells old.page before.levels.items
+  levels_stay = levels_fine v.id.index old.store.cells mid.cells kept.grows old.page old.page (λ n h. refl) (λ n h. h) (forests old) before.levels.items levels
 
   -- what is sound stays so
-  pub sound_stays : IsSound v.number mid old.page v.around
-  sound_stays = sound_grows v.number old.store mid old.page v.around fine.sound kept.grows (kept.nodes (owns old.page v.number) fine.sound.holds.bunches)
+  pub sound_stays : IsSound v.id.index mid old.page v.around
+  sound_stays = sound_grows v.id.index old.store mid old.page v.around fine.sound kept.grows (kept.nodes (owns old.page v.id.index) fine.sound.holds.bunches)
 
   -- steps of a task, which is at first this one
   pub task_strides : (x : Outside) (n c : ℕ) (a t u : Task) (k : Stepped) (d : Doing) → t ≡ a
-      → ((r : Rest) → Strides n c (remaining (forests old) v.number old.store t r) (remaining_after (forests old) v.number mid u k r))
-      → IsFollowed v.number old.page v.around mid new before after u k d
-      → Strides n c (and_then (remaining (forests old) v.number old.store a (rest_in old v lt before x)) (levels_rest (forests old) v.number old.store.cells old.page before.levels.items))
-      (turn_plan (forests old) v.number new.cells old.page d after.levels.items (turn_image (forests old) (with_notes v.log.items v.posts.items x) v.number new old.page v.around after.dispatches.items))
+      → ((r : Rest) → Strides n c (remaining (forests old) v.id.index old.store t r) (remaining_after (forests old) v.id.index mid u k r))
+      → IsFollowed v.id.index old.page v.around mid new before after u k d
+      → Strides n c (and_then (remaining (forests old) v.id.index old.store a (rest_in old v lt before x)) (levels_rest (forests old) v.id.index old.store.cells old.page before.levels.items))
+      (turn_plan (forests old) v.id.index new.cells old.page d after.levels.items (turn_image (forests old) (with_notes v.log.items v.posts.items x) v.id.index new old.page v.around after.dispatches.items))
   task_strides x n c a t u k d at strides followed =
       let fs = forests old in
-      let w = v.number in
+      let w = v.id.index in
       let ds = before.dispatches.items in
       let y = with_notes v.log.items v.posts.items x in
       let r = rest_in old v lt before x in

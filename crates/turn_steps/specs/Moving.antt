@@ -5,20 +5,20 @@ use Rattle.widget_meaning.specs.Plan.{Plan}
 use Rattle.widget_meaning.specs.Meaning.{run_plan}
 use Rattle.native_image.specs.Image.{Outside}
 use Rattle.life_laws.specs.Life.{Fixed, Runs}
-use Rattle.turn_returns.specs.declared.turn.Shared.{Shared}
+use Rattle.native_image.specs.declared.handed.Shared.{Shared}
 use Rattle.turn_returns.specs.declared.turn.Turn.{Turn}
 use Rattle.js_steps.specs.declared.answer.Stop.TheVariants as stop
 use Rattle.turn_steps.specs.declared.turn.TurnEnd.{TurnEnd}
 use Rattle.turn_steps.specs.declared.turn.TurnEnd.TheVariants as ended
 use Rattle.turn_steps.specs.declared.turn.Ran.{Ran}
 use Rattle.turn_steps.specs.declared.turn.Ran.TheVariants as ran
-use Rattle.turn_returns.specs.declared.turn.Widget.{Widget}
+use Rattle.native_image.specs.declared.handed.Widget.{Widget}
 use Rattle.turn_steps.specs.Turning.{FineEnd, FineTurn, end_of, plan_in, state_in, turn_in}
 
 -- the last plan of a turn that is over ends at once, as the turn ended
 abbrev pub IsOut : Outside → Shared → Widget → Turn → TurnEnd → Type 0
 IsOut x h v t how =
-    run_plan t.left (plan_in x h v t) ≡ record { how = end_of v.number h.store.cells how; state = state_in x h v t.calls.dispatches.items; left = t.left }
+    run_plan t.left (plan_in x h v t) ≡ record { how = end_of v.id.index h.store.cells how; state = state_in x h v t.calls.dispatches.items; left = t.left }
 
 module _ (k : ℕ) (old new : Shared) (v u : Widget) (t s : Turn) where
   -- The k units of a pick are used up: the turn spent at least so many, the last charge began below k, and what is next costs fuel.
@@ -35,7 +35,7 @@ module _ (k : ℕ) (old new : Shared) (v u : Widget) (t s : Turn) where
     pub less : left ≤ t.left
     pub runs : Runs k (t.left - left) (turn_in x old v f t) (record { fixed = f; plan = last; left = left })
     pub fuel : how ≡ ended.Stop stop.Fuel → t.left - left < k
-    pub out : run_plan left last ≡ record { how = end_of u.number new.store.cells how; state = state_in x new u dispatches; left = left }
+    pub out : run_plan left last ≡ record { how = end_of u.id.index new.store.cells how; state = state_in x new u dispatches; left = left }
 
   -- what came of a turn, of which this is left where it is cut
   abbrev pub RanTo : Fixed → Outside → Ran → Type 0

@@ -27,9 +27,9 @@ use Rattle.turn_returns.specs.declared.calls.Calls.{Calls}
 use Rattle.turn_returns.specs.Turns.{turn_image}
 use Rattle.turn_returns.specs.Waiting.{FineLevels}
 use Rattle.turn_returns.specs.Weights.{doing_free, levels_free}
-use Rattle.turn_returns.specs.declared.turn.Shared.{Shared}
+use Rattle.native_image.specs.declared.handed.Shared.{Shared}
 use Rattle.turn_returns.specs.declared.turn.Turn.{Turn}
-use Rattle.turn_returns.specs.declared.turn.Widget.{Widget}
+use Rattle.native_image.specs.declared.handed.Widget.{Widget}
 use Rattle.turn_steps.specs.declared.moving.Moved.{Moved}
 use Rattle.turn_steps.specs.Turning.{FineTurn, forests, plan_in, state_in}
 
@@ -41,7 +41,7 @@ is_short k = false
 
 -- what a turn has still to do that does this
 abbrev pub doing_in : Outside → Shared → Widget → Calls → Doing → Plan
-doing_in x h v calls d = turn_plan (forests h) v.number h.store.cells h.page d calls.levels.items (state_in x h v calls.dispatches.items)
+doing_in x h v calls d = turn_plan (forests h) v.id.index h.store.cells h.page d calls.levels.items (state_in x h v calls.dispatches.items)
 
 -- the turn is not over
 abbrev pub is_open : Doing → Bool
@@ -79,7 +79,7 @@ pub record IsFollowed (w : ℕ) (p : Page) (l : Loop) (old new : Cells) (before 
 pub record IsMoved (old new : Shared) (v u : Widget) (before after : Calls) (had has : Fuel) (d : Doing) (m : Moved) : Type 0 where
   pub moves : (x : Outside) → Moves (had.left - has.left) (state_in x old v before.dispatches.items) (doing_in x old v before d) (doing_in x new u after m.doing)
   pub spends : has.left ≤ had.left
-  pub fine : FineDoing (forests new) u.number new.store new.page m.doing × FineLevels (forests new) u.number new.store.cells new.page after.levels.items
+  pub fine : FineDoing (forests new) u.id.index new.store new.page m.doing × FineLevels (forests new) u.id.index new.store.cells new.page after.levels.items
   pub short : m.is_short ≡ true → (has.left ≡ had.left) × ((x : Outside) → run_plan had.left (doing_in x new u after m.doing) ≡ out_of_fuel (state_in x new u after.dispatches.items) had.left)
   pub nearer : m.is_short ≡ false → near has.left m.doing after < near had.left d before
 
@@ -97,7 +97,7 @@ pub record IsBegun (w : ℕ) (before after : Calls) (h : Hearing) (d : Doing) : 
 pub record IsStepped (k : ℕ) (old new : Shared) (v u : Widget) (t s : Turn) (is_short : Bool) : Type 0 where
   pub strides : (x : Outside) → Strides k (t.left - s.left) (plan_in x old v t) (plan_in x new u s)
   pub spends : s.left ≤ t.left
-  pub fine : FineTurn new u.number s
+  pub fine : FineTurn new u.id.index s
   pub cut : is_short ≡ true → k ≤ t.left - s.left → (x : Outside) → run_plan 0 (plan_in x new u s) ≡ out_of_fuel (state_in x new u s.calls.dispatches.items) 0
   pub stop : is_short ≡ true → t.left - s.left < k → (x : Outside) → run_plan s.left (plan_in x new u s) ≡ out_of_fuel (state_in x new u s.calls.dispatches.items) s.left
   pub nearer : is_short ≡ false → near s.left s.doing s.calls < near t.left t.doing t.calls

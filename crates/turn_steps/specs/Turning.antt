@@ -20,11 +20,11 @@ use Rattle.turn_dispatch.specs.Held.{FineDoing}
 use Rattle.turn_dispatch.specs.Levels.{turn_plan}
 use Rattle.turn_returns.specs.Turns.{turn_image}
 use Rattle.turn_returns.specs.Waiting.{FineLevels}
-use Rattle.turn_returns.specs.declared.turn.Shared.{Shared}
+use Rattle.native_image.specs.declared.handed.Shared.{Shared}
 use Rattle.turn_returns.specs.declared.turn.Turn.{Turn}
 use Rattle.turn_steps.specs.declared.turn.TurnEnd.{TurnEnd}
 use Rattle.turn_steps.specs.declared.turn.TurnEnd.TheVariants as ended
-use Rattle.turn_returns.specs.declared.turn.Widget.{Widget}
+use Rattle.native_image.specs.declared.handed.Widget.{Widget}
 
 -- the trees of the scripts of the widget whose turn it is
 abbrev pub forests : Shared → List Forest
@@ -33,11 +33,11 @@ forests h = trees_of h.codes.items
 module _ (x : Outside) (h : Shared) (v : Widget) where
   -- the widget's state with these dispatches open, the innermost last
   abbrev pub state_in : List Bool → State
-  state_in dispatches = turn_image (forests h) (with_notes v.log.items v.posts.items x) v.number h.store h.page v.around dispatches
+  state_in dispatches = turn_image (forests h) (with_notes v.log.items v.posts.items x) v.id.index h.store h.page v.around dispatches
 
   -- what a turn has still to do
   abbrev pub plan_in : Turn → Plan
-  plan_in t = turn_plan (forests h) v.number h.store.cells h.page t.doing t.calls.levels.items (state_in t.calls.dispatches.items)
+  plan_in t = turn_plan (forests h) v.id.index h.store.cells h.page t.doing t.calls.levels.items (state_in t.calls.dispatches.items)
 
   -- a turn of a widget of which this is fixed
   abbrev pub turn_in : Fixed → Turn → life.Turn
@@ -61,5 +61,5 @@ pub record FineTurn (h : Shared) (w : ℕ) (t : Turn) : Type 0 where
 
 -- What holds of a widget beside what all share: what it has in the store leads to what it may hold, and store, page and what is kept for it agree.
 pub record FineWidget (h : Shared) (v : Widget) : Type 0 where
-  pub confined : IsConfined (forests h) v.number h.store
-  pub sound : IsSound v.number h.store h.page v.around
+  pub confined : IsConfined (forests h) v.id.index h.store
+  pub sound : IsSound v.id.index h.store h.page v.around

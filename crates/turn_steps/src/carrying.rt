@@ -1,5 +1,5 @@
 //! A native that a turn carries out, and what its answer comes to.
-ghost use Rattle.std.specs.Prelude.{◌≡◌, ◌<◌, false, IfOk, None, OnOk, reverse, drop};
+ghost use Rattle.std.specs.Prelude.{◌≡◌, false, IfOk, None, OnOk, reverse, drop};
 ghost use Rattle.plan_ends.specs.Ends.{ByValue};
 ghost use Rattle.js_steps.specs.Ending.{Awaits};
 ghost use Rattle.js_flow.specs.Fine.{FineFrames, FineNative};
@@ -13,7 +13,7 @@ ghost use Rattle.turn_dispatch.specs.Held.{FineDoing};
 ghost use Rattle.turn_dispatch.specs.declared.level.Doing.TheVariants as doing;
 ghost use Rattle.turn_returns.specs.Turns.{bubbled_of};
 ghost use Rattle.turn_returns.specs.Waiting.{FineFiring, FineLevels};
-ghost use Rattle.turn_steps.specs.Keeping.{KeepsTurn};
+ghost use Rattle.turn_steps.specs.Keeping.{Keeps};
 ghost use Rattle.turn_steps.specs.Carrying.{IsAnswered, IsPerformed, is_fire, is_wanting};
 ghost use Rattle.turn_steps.specs.Steps.{IsMoved};
 ghost use Rattle.turn_steps.specs.Turning.{FineWidget, forests};
@@ -23,11 +23,11 @@ use code_units::Memory;
 use js_flow::{Completion, Control, NativeCall};
 use js_steps::{Task, resume};
 use js_values::{Meter, NativeOut, Plan};
+use native_image::{Shared, Widget};
 use natives::call;
 use object_store::Value;
-use std::alloc::Global;
-use turn_dispatch::{Doing, Firing, Level};
-use turn_returns::{Calls, Shared, Site, Widget, give};
+use turn_dispatch::{Doing, Firing, Level, Site};
+use turn_returns::{Calls, give};
 
 // Whether `bubble` was called in the innermost open dispatch, if one is open.
 fn innermost(dispatches: &Vec<bool>) -> Option<bool>
@@ -61,39 +61,26 @@ fn is_wanting(out: &NativeOut) -> bool
 
 // Carries a native out, in the innermost of the open dispatches.
 fn perform(
-    alloc: Global,
     shared: &mut Shared,
     widget: &mut Widget,
     dispatches: &mut Vec<bool>,
     native: &NativeCall,
     meter: &mut Meter,
 ) -> Result<NativeOut, Memory>
-    requires number { widget.old.number < 32 }
     requires widget { FineWidget shared.old widget.old }
-    requires native { FineNative widget.old.number shared.old.store.cells native.now }
+    requires native { FineNative widget.old.id.index shared.old.store.cells native.now }
     ensures carried { IfOk result
         (IsPerformed shared.old shared.new widget.old widget.new dispatches.old.items dispatches.new.items meter.old
         meter.new native.now) }
     ensures fine { OnOk result (FineWidget shared.new widget.new) }
-    ensures kept { KeepsAll widget.old.number shared.old.store shared.new.store shared.old.page shared.new.page
+    ensures kept { KeepsAll widget.old.id.index shared.old.store shared.new.store shared.old.page shared.new.page
         widget.new.around }
-    ensures number { widget.new.number ≡ widget.old.number }
+    ensures number { widget.new.id.index ≡ widget.old.id.index }
     ensures codes { shared.new.codes ≡ shared.old.codes }
 {
-    let mut bubbled = innermost(dispatches);
-    let out = call(
-        alloc,
-        widget.number,
-        native,
-        &mut shared.store,
-        meter,
-        &mut shared.page,
-        &mut widget.around,
-        &mut bubbled,
-        &mut widget.log,
-        &mut widget.posts,
-    )?;
-    put_innermost(dispatches, bubbled)?;
+    widget.bubbled = innermost(dispatches);
+    let out = call(native, shared, meter, widget)?;
+    put_innermost(dispatches, widget.bubbled)?;
     Ok(out)
 }
 
@@ -106,42 +93,37 @@ fn is_fire(out: &NativeOut) -> bool
 
 // The handlers that a native asks for are called at each node in turn: the task waits for them.
 fn fire(
-    alloc: Global,
     shared: &mut Shared,
     widget: &Widget,
     calls: &mut Calls,
     task: Box<Task>,
     firing: Firing,
 ) -> Result<Doing, Memory>
-    requires number { widget.now.number < 32 }
     requires widget { FineWidget shared.old widget.now }
-    requires firing { FineFiring widget.now.number shared.old.store.cells shared.old.page firing }
-    requires task { task.value.widget ≡ widget.now.number }
+    requires firing { FineFiring widget.now.id.index shared.old.store.cells shared.old.page firing }
+    requires task { task.value.widget ≡ widget.now.id.index }
     requires frames { FineFrames
-        (forests shared.old) widget.now.number shared.old.store.cells task.value.frames.list.items }
-    requires awaits { Awaits (forests shared.old) widget.now.number shared.old.store.cells ByValue
+        (forests shared.old) widget.now.id.index shared.old.store.cells task.value.frames.list.items }
+    requires awaits { Awaits (forests shared.old) widget.now.id.index shared.old.store.cells ByValue
         task.value.frames.list.items }
     requires levels { FineLevels
-        (forests shared.old) widget.now.number shared.old.store.cells shared.old.page calls.old.levels.items }
+        (forests shared.old) widget.now.id.index shared.old.store.cells shared.old.page calls.old.levels.items }
     ensures answered { IfOk result
         (IsAnswered shared.old shared.new widget.now calls.old calls.new task.value firing.depth
         (native_out.Call (native_calls.Fire firing.kind firing.nodes firing.last))) }
     ensures fine { OnOk result (FineWidget shared.new widget.now) }
-    ensures kept { KeepsTurn (forests shared.old) widget.now.number shared.old.store shared.new.store shared.old.page
-        shared.old.page widget.now.around }
-    ensures page { shared.new.page ≡ shared.old.page }
-    ensures codes { shared.new.codes ≡ shared.old.codes }
+    ensures kept { Keeps shared.old shared.new widget.now widget.now }
 {
-    let firing = Box::new(alloc, firing)?;
+    let firing = Box::new(shared.alloc, firing)?;
     calls.levels.push(Level::Waits(task))?;
     calls.levels.push(Level::Fires(firing, 0))?;
     let site = Site {
-        widget: widget.number,
+        id: widget.id,
         page: &shared.page,
         around: &widget.around,
     };
     let how = Completion::Is(Value::Undefined);
-    let doing = give(alloc, &mut shared.store, &site, calls, how)?;
+    let doing = give(shared.alloc, &mut shared.store, &site, calls, how)?;
     Ok(doing)
 }
 
@@ -154,76 +136,72 @@ fn wait(task: &mut Task, depth: u32)
 
 // The task that waits for a native goes on with its answer.
 fn resume_task(
-    alloc: Global,
     shared: &mut Shared,
     widget: &Widget,
     calls: &mut Calls,
     task: Box<Task>,
     answer: (u32, NativeOut),
 ) -> Result<Doing, Memory>
-    requires number { widget.now.number < 32 }
     requires widget { FineWidget shared.old widget.now }
-    requires out { IsFineOut widget.now.number shared.old.store.cells answer.1 × IsCarried answer.1 }
-    requires task { task.value.widget ≡ widget.now.number }
+    requires out { IsFineOut widget.now.id.index shared.old.store.cells answer.1 × IsCarried answer.1 }
+    requires task { task.value.widget ≡ widget.now.id.index }
     requires frames { FineFrames
-        (forests shared.old) widget.now.number shared.old.store.cells task.value.frames.list.items }
-    requires awaits { Awaits (forests shared.old) widget.now.number shared.old.store.cells ByValue
+        (forests shared.old) widget.now.id.index shared.old.store.cells task.value.frames.list.items }
+    requires awaits { Awaits (forests shared.old) widget.now.id.index shared.old.store.cells ByValue
         task.value.frames.list.items }
     requires levels { FineLevels
-        (forests shared.old) widget.now.number shared.old.store.cells shared.old.page calls.old.levels.items }
+        (forests shared.old) widget.now.id.index shared.old.store.cells shared.old.page calls.old.levels.items }
     ensures answered { IfOk result
         (IsAnswered shared.old shared.new widget.now calls.old calls.new task.value answer.0 answer.1) }
     ensures fine { OnOk result (FineWidget shared.new widget.now) }
-    ensures kept { KeepsTurn (forests shared.old) widget.now.number shared.old.store shared.new.store shared.old.page
-        shared.old.page widget.now.around }
-    ensures page { shared.new.page ≡ shared.old.page }
-    ensures codes { shared.new.codes ≡ shared.old.codes }
+    ensures kept { Keeps shared.old shared.new widget.now widget.now }
 {
     let mut task = task;
     let (depth, out) = answer;
     wait(&mut task, depth);
-    let stepped = resume(alloc, &shared.codes, &mut shared.store, &mut task, out)?;
+    let stepped = resume(
+        shared.alloc,
+        &shared.codes,
+        &mut shared.store,
+        &mut task,
+        out,
+    )?;
     let site = Site {
-        widget: widget.number,
+        id: widget.id,
         page: &shared.page,
         around: &widget.around,
     };
-    let doing = follow(alloc, &mut shared.store, &site, calls, task, stepped)?;
+    let doing = follow(shared.alloc, &mut shared.store, &site, calls, task, stepped)?;
     Ok(doing)
 }
 
 // What a native gave comes to: its calls are made, or the task that waits for it goes on.
 fn answer(
-    alloc: Global,
     shared: &mut Shared,
     widget: &Widget,
     calls: &mut Calls,
     task: Box<Task>,
     answer: (u32, NativeOut),
 ) -> Result<Doing, Memory>
-    requires number { widget.now.number < 32 }
     requires widget { FineWidget shared.old widget.now }
-    requires out { IsFineOut widget.now.number shared.old.store.cells answer.1 }
+    requires out { IsFineOut widget.now.id.index shared.old.store.cells answer.1 }
     requires paid { is_wanting answer.1 ≡ false }
-    requires fires { FiresAtOwn widget.now.number
+    requires fires { FiresAtOwn widget.now.id.index
         (beside shared.old.store shared.old.page widget.now.around None) answer.1 }
-    requires task { task.value.widget ≡ widget.now.number }
+    requires task { task.value.widget ≡ widget.now.id.index }
     requires frames { FineFrames
-        (forests shared.old) widget.now.number shared.old.store.cells task.value.frames.list.items }
-    requires awaits { Awaits (forests shared.old) widget.now.number shared.old.store.cells ByValue
+        (forests shared.old) widget.now.id.index shared.old.store.cells task.value.frames.list.items }
+    requires awaits { Awaits (forests shared.old) widget.now.id.index shared.old.store.cells ByValue
         task.value.frames.list.items }
     requires levels { FineLevels
-        (forests shared.old) widget.now.number shared.old.store.cells shared.old.page calls.old.levels.items }
+        (forests shared.old) widget.now.id.index shared.old.store.cells shared.old.page calls.old.levels.items }
     ensures answered { IfOk result
         (IsAnswered shared.old shared.new widget.now calls.old calls.new task.value answer.0 answer.1) }
     ensures fine { OnOk result (FineWidget shared.new widget.now) }
-    ensures kept { KeepsTurn (forests shared.old) widget.now.number shared.old.store shared.new.store shared.old.page
-        shared.old.page widget.now.around }
-    ensures page { shared.new.page ≡ shared.old.page }
-    ensures codes { shared.new.codes ≡ shared.old.codes }
+    ensures kept { Keeps shared.old shared.new widget.now widget.now }
 {
     if !is_fire(&answer.1) {
-        return resume_task(alloc, shared, widget, calls, task, answer);
+        return resume_task(shared, widget, calls, task, answer);
     }
     let (depth, out) = answer;
     match out {
@@ -234,7 +212,7 @@ fn answer(
                 last,
                 depth,
             };
-            fire(alloc, shared, widget, calls, task, firing)
+            fire(shared, widget, calls, task, firing)
         }
         _ => unreachable!(),
     }
@@ -243,37 +221,32 @@ fn answer(
 /// Carries out a native for the task that waits for it, and goes on with what it gave. Where fuel is
 /// wanting the turn is as it was.
 pub(crate) fn carry(
-    alloc: Global,
     shared: &mut Shared,
     widget: &mut Widget,
     calls: &mut Calls,
     at: (Box<Task>, Box<NativeCall>),
     meter: &mut Meter,
 ) -> Result<Moved, Memory>
-    requires number { widget.old.number < 32 }
     requires widget { FineWidget shared.old widget.old }
-    requires native { FineDoing (forests shared.old) widget.old.number shared.old.store shared.old.page
+    requires native { FineDoing (forests shared.old) widget.old.id.index shared.old.store shared.old.page
         (doing.Native at.0 at.1) }
     requires levels { FineLevels
-        (forests shared.old) widget.old.number shared.old.store.cells shared.old.page calls.old.levels.items }
+        (forests shared.old) widget.old.id.index shared.old.store.cells shared.old.page calls.old.levels.items }
     ensures moved { IfOk result
         (IsMoved shared.old shared.new widget.old widget.new calls.old calls.new meter.old meter.new
         (doing.Native at.0 at.1)) }
     ensures fine { OnOk result (FineWidget shared.new widget.new) }
-    ensures kept { KeepsTurn (forests shared.old) widget.old.number shared.old.store shared.new.store shared.old.page
-        shared.new.page widget.new.around }
-    ensures number { widget.new.number ≡ widget.old.number }
-    ensures codes { shared.new.codes ≡ shared.old.codes }
+    ensures kept { Keeps shared.old shared.new widget.old widget.new }
 {
     let (task, native) = at;
-    let out = perform(alloc, shared, widget, &mut calls.dispatches, &native, meter)?;
+    let out = perform(shared, widget, &mut calls.dispatches, &native, meter)?;
     if is_wanting(&out) {
         return Ok(Moved {
             doing: Doing::Native(task, native),
             is_short: true,
         });
     }
-    let doing = answer(alloc, shared, widget, calls, task, (native.depth, out))?;
+    let doing = answer(shared, widget, calls, task, (native.depth, out))?;
     Ok(Moved {
         doing,
         is_short: false,

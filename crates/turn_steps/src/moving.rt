@@ -12,7 +12,7 @@ ghost use Rattle.turn_dispatch.specs.Held.{FineDoing};
 ghost use Rattle.turn_dispatch.specs.declared.level.Doing.TheVariants as doing;
 ghost use Rattle.turn_returns.specs.Took.{StaysSound};
 ghost use Rattle.turn_returns.specs.Waiting.{FineLevels};
-ghost use Rattle.turn_steps.specs.Keeping.{KeepsTurn};
+ghost use Rattle.turn_steps.specs.Keeping.{Keeps};
 ghost use Rattle.turn_steps.specs.Steps.{IsBegun, IsFollowed, IsGiven, IsMoved, IsStepped, is_open, is_short, runs};
 ghost use Rattle.turn_steps.specs.Turning.{FineTurn, FineWidget, forests};
 
@@ -21,11 +21,13 @@ use code_units::Memory;
 use js_flow::Completion;
 use js_steps::{Stepped, Stop, Task, stride};
 use js_values::Meter;
+use native_common::WidgetId;
+use native_image::{Shared, Widget};
 use object_store::Store;
 use std::alloc::Global;
 use std::mem;
-use turn_dispatch::{Doing, Hearing, Level};
-use turn_returns::{Calls, Shared, Site, Turn, Widget, call_handler, give};
+use turn_dispatch::{Doing, Hearing, Level, Site};
+use turn_returns::{Calls, Turn, call_handler, give};
 
 /// What a turn does after a step, and whether the step wanted fuel that is not there.
 #[derive(Drop)]
@@ -74,14 +76,13 @@ fn give_on(
     calls: &mut Calls,
     how: Completion,
 ) -> Result<Doing, Memory>
-    requires widget { site.now.widget < 32 }
-    requires sound { IsSound site.now.widget store.old site.now.page.now site.now.around.now }
+    requires sound { IsSound site.now.id.index store.old site.now.page.now site.now.around.now }
     requires levels { (fs : List Forest)
-        × FineLevels fs site.now.widget store.old.cells site.now.page.now calls.old.levels.items }
-    requires how { FineEnd site.now.widget store.old.cells how }
+        × FineLevels fs site.now.id.index store.old.cells site.now.page.now calls.old.levels.items }
+    requires how { FineEnd site.now.id.index store.old.cells how }
     ensures given { IfOk result
-        (IsGiven site.now.widget site.now.page.now site.now.around.now store.old store.new calls.old calls.new how) }
-    ensures kept { StaysSound site.now.widget site.now.page.now store.old store.new }
+        (IsGiven site.now.id.index site.now.page.now site.now.around.now store.old store.new calls.old calls.new how) }
+    ensures kept { StaysSound site.now.id.index site.now.page.now store.old store.new }
 {
     let doing = give(alloc, store, site, calls, how)?;
     Ok(doing)
@@ -107,16 +108,15 @@ pub(crate) fn follow(
     task: Box<Task>,
     stepped: Stepped,
 ) -> Result<Doing, Memory>
-    requires widget { site.now.widget < 32 }
-    requires sound { IsSound site.now.widget store.old site.now.page.now site.now.around.now }
+    requires sound { IsSound site.now.id.index store.old site.now.page.now site.now.around.now }
     requires levels { (fs : List Forest)
-        × FineLevels fs site.now.widget store.old.cells site.now.page.now calls.old.levels.items
-        × IsFineAfter fs site.now.widget store.old task.value stepped }
+        × FineLevels fs site.now.id.index store.old.cells site.now.page.now calls.old.levels.items
+        × IsFineAfter fs site.now.id.index store.old task.value stepped }
     requires follows { Follows (machine stepped) task.value.control }
     ensures followed { IfOk result
-        (IsFollowed site.now.widget site.now.page.now site.now.around.now store.old store.new calls.old calls.new
+        (IsFollowed site.now.id.index site.now.page.now site.now.around.now store.old store.new calls.old calls.new
         task.value stepped) }
-    ensures kept { StaysSound site.now.widget site.now.page.now store.old store.new }
+    ensures kept { StaysSound site.now.id.index site.now.page.now store.old store.new }
 {
     match stepped {
         Stepped::Went => Ok(Doing::Runs(task)),
@@ -136,28 +136,24 @@ fn runs(doing: &Doing) -> bool
 
 // A task is carried on in its place, for so many units of the turn's fuel; where it waits or is over, that is followed.
 fn run_task(
-    alloc: Global,
     shared: &mut Shared,
     widget: &Widget,
     turn: &mut Turn,
     units: u32,
 ) -> Result<bool, Memory>
-    requires number { widget.now.number < 32 }
     requires widget { FineWidget shared.old widget.now }
     requires runs { runs turn.old.doing ≡ true }
-    requires turn { FineTurn shared.old widget.now.number turn.old }
+    requires turn { FineTurn shared.old widget.now.id.index turn.old }
     ensures stepped { IfOk result (IsStepped units shared.old shared.new widget.now widget.now turn.old turn.new) }
     ensures fine { OnOk result (FineWidget shared.new widget.now) }
-    ensures kept { KeepsTurn (forests shared.old) widget.now.number shared.old.store shared.new.store shared.old.page
-        shared.new.page widget.now.around }
-    ensures codes { shared.new.codes ≡ shared.old.codes }
+    ensures kept { Keeps shared.old shared.new widget.now widget.now }
 {
     let Doing::Runs(task) = &mut turn.doing else {
         unreachable!()
     };
     let mut meter = Meter::new(turn.left, 0);
     let stepped = stride(
-        alloc,
+        shared.alloc,
         &shared.codes,
         &mut shared.store,
         task,
@@ -170,12 +166,12 @@ fn run_task(
     }
     let task = take_task(&mut turn.doing);
     let site = Site {
-        widget: widget.number,
+        id: widget.id,
         page: &shared.page,
         around: &widget.around,
     };
     let doing = follow(
-        alloc,
+        shared.alloc,
         &mut shared.store,
         &site,
         &mut turn.calls,
@@ -187,9 +183,14 @@ fn run_task(
 }
 
 // The first handler of a dispatch is called; the unit of the dispatch is that of the call.
-fn begin(alloc: Global, w: u32, calls: &mut Calls, hearing: Box<Hearing>) -> Result<Doing, Memory>
+fn begin(
+    alloc: Global,
+    w: WidgetId,
+    calls: &mut Calls,
+    hearing: Box<Hearing>,
+) -> Result<Doing, Memory>
     requires { 0 < length hearing.value.handlers.items }
-    ensures { IfOk result (IsBegun w calls.old calls.new hearing.value) }
+    ensures { IfOk result (IsBegun w.index calls.old calls.new hearing.value) }
 {
     let task = call_handler(alloc, w, &hearing, 0)?;
     calls.levels.push(Level::Hears(hearing, 1))?;
@@ -198,32 +199,27 @@ fn begin(alloc: Global, w: u32, calls: &mut Calls, hearing: Box<Hearing>) -> Res
 
 // A native is carried out, or the first handler of a dispatch is called.
 fn advance(
-    alloc: Global,
     shared: &mut Shared,
     widget: &mut Widget,
     calls: &mut Calls,
     doing: Doing,
     meter: &mut Meter,
 ) -> Result<Moved, Memory>
-    requires number { widget.old.number < 32 }
     requires widget { FineWidget shared.old widget.old }
     requires open { is_open doing ≡ true }
     requires other { runs doing ≡ false }
-    requires doing { FineDoing (forests shared.old) widget.old.number shared.old.store shared.old.page doing }
+    requires doing { FineDoing (forests shared.old) widget.old.id.index shared.old.store shared.old.page doing }
     requires levels { FineLevels
-        (forests shared.old) widget.old.number shared.old.store.cells shared.old.page calls.old.levels.items }
+        (forests shared.old) widget.old.id.index shared.old.store.cells shared.old.page calls.old.levels.items }
     ensures moved { IfOk result
         (IsMoved shared.old shared.new widget.old widget.new calls.old calls.new meter.old meter.new doing) }
     ensures fine { OnOk result (FineWidget shared.new widget.new) }
-    ensures kept { KeepsTurn (forests shared.old) widget.old.number shared.old.store shared.new.store shared.old.page
-        shared.new.page widget.new.around }
-    ensures number { widget.new.number ≡ widget.old.number }
-    ensures codes { shared.new.codes ≡ shared.old.codes }
+    ensures kept { Keeps shared.old shared.new widget.old widget.new }
 {
     match doing {
-        Doing::Native(task, native) => carry(alloc, shared, widget, calls, (task, native), meter),
+        Doing::Native(task, native) => carry(shared, widget, calls, (task, native), meter),
         Doing::Hears(hearing) => {
-            let doing = begin(alloc, widget.number, calls, hearing)?;
+            let doing = begin(shared.alloc, widget.id, calls, hearing)?;
             Ok(Moved {
                 doing,
                 is_short: false,
@@ -249,28 +245,23 @@ fn granted(left: u32, units: u32) -> u32
 
 // A turn in which no task takes steps, and that is not over, goes on.
 fn pass_on(
-    alloc: Global,
     shared: &mut Shared,
     widget: &mut Widget,
     turn: &mut Turn,
     units: u32,
 ) -> Result<bool, Memory>
-    requires number { widget.old.number < 32 }
     requires widget { FineWidget shared.old widget.old }
     requires open { is_open turn.old.doing ≡ true }
     requires other { runs turn.old.doing ≡ false }
-    requires turn { FineTurn shared.old widget.old.number turn.old }
+    requires turn { FineTurn shared.old widget.old.id.index turn.old }
     ensures stepped { IfOk result (IsStepped units shared.old shared.new widget.old widget.new turn.old turn.new) }
     ensures fine { OnOk result (FineWidget shared.new widget.new) }
-    ensures kept { KeepsTurn (forests shared.old) widget.old.number shared.old.store shared.new.store shared.old.page
-        shared.new.page widget.new.around }
-    ensures number { widget.new.number ≡ widget.old.number }
-    ensures codes { shared.new.codes ≡ shared.old.codes }
+    ensures kept { Keeps shared.old shared.new widget.old widget.new }
 {
     let had = granted(turn.left, units);
     let mut meter = Meter::new(had, 0);
     let doing = take(&mut turn.doing);
-    let moved = advance(alloc, shared, widget, &mut turn.calls, doing, &mut meter)?;
+    let moved = advance(shared, widget, &mut turn.calls, doing, &mut meter)?;
     put(&mut turn.doing, moved.doing);
     turn.left -= had - meter.left();
     Ok(moved.is_short)
@@ -280,25 +271,20 @@ fn pass_on(
 /// many units; where they are used up, only by what costs nothing. Whether what is next wants fuel that is
 /// not there.
 pub(crate) fn move_on(
-    alloc: Global,
     shared: &mut Shared,
     widget: &mut Widget,
     turn: &mut Turn,
     units: u32,
 ) -> Result<bool, Memory>
-    requires number { widget.old.number < 32 }
     requires widget { FineWidget shared.old widget.old }
     requires open { is_open turn.old.doing ≡ true }
-    requires turn { FineTurn shared.old widget.old.number turn.old }
+    requires turn { FineTurn shared.old widget.old.id.index turn.old }
     ensures stepped { IfOk result (IsStepped units shared.old shared.new widget.old widget.new turn.old turn.new) }
     ensures fine { OnOk result (FineWidget shared.new widget.new) }
-    ensures kept { KeepsTurn (forests shared.old) widget.old.number shared.old.store shared.new.store shared.old.page
-        shared.new.page widget.new.around }
-    ensures number { widget.new.number ≡ widget.old.number }
-    ensures codes { shared.new.codes ≡ shared.old.codes }
+    ensures kept { Keeps shared.old shared.new widget.old widget.new }
 {
     if runs(&turn.doing) {
-        return run_task(alloc, shared, widget, turn, units);
+        return run_task(shared, widget, turn, units);
     }
-    pass_on(alloc, shared, widget, turn, units)
+    pass_on(shared, widget, turn, units)
 }

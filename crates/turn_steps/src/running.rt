@@ -2,20 +2,20 @@
 ghost use Rattle.std.specs.Prelude.{◌≡◌, ◌-◌, ◌<◌, ◌≤◌, IfOk, OnOk, false};
 ghost use Rattle.native_image.specs.Image.{Outside};
 ghost use Rattle.life_laws.specs.Life.{Fixed};
-ghost use Rattle.turn_returns.specs.declared.turn.Shared.{Shared as SharedBy};
-ghost use Rattle.turn_returns.specs.declared.turn.Widget.{Widget as WidgetOf};
+ghost use Rattle.native_image.specs.declared.handed.Shared.{Shared as SharedBy};
+ghost use Rattle.native_image.specs.declared.handed.Widget.{Widget as WidgetOf};
 ghost use Rattle.turn_steps.specs.Moving.{FineRan, IsOut, RanTo};
-ghost use Rattle.turn_steps.specs.Keeping.{KeepsTurn};
+ghost use Rattle.turn_steps.specs.Keeping.{Keeps};
 ghost use Rattle.turn_steps.specs.Steps.{is_open};
-ghost use Rattle.turn_steps.specs.Turning.{FineEnd, FineTurn, FineWidget, forests};
+ghost use Rattle.turn_steps.specs.Turning.{FineEnd, FineTurn, FineWidget};
 
 use crate::moving::{move_on, take};
 use crate::turn::{Ran, TurnEnd};
 use code_units::Memory;
 use js_steps::Stop;
-use std::alloc::Global;
+use native_image::{Shared, Widget};
 use turn_dispatch::Doing;
-use turn_returns::{Shared, Turn, Widget};
+use turn_returns::Turn;
 
 // Whether a turn is not over.
 fn is_open(doing: &Doing) -> bool
@@ -48,8 +48,8 @@ fn short(start: u32, left: u32, units: u32) -> Ran
 fn ended(turn: &mut Turn) -> TurnEnd
     requires over { is_open turn.old.doing ≡ false }
     ensures out { (x : Outside) (h : SharedBy) (v : WidgetOf) → IsOut x h v turn.old result }
-    ensures fine { (h : SharedBy) (v : WidgetOf) → FineTurn h v.number turn.old
-        → FineEnd v.number h.store.cells result }
+    ensures fine { (h : SharedBy) (v : WidgetOf) → FineTurn h v.id.index turn.old
+        → FineEnd v.id.index h.store.cells result }
     ensures left { turn.new.left ≡ turn.old.left }
     ensures due { result ≡ TurnEnd.Stop Stop.Fuel → ⊥ }
 {
@@ -64,28 +64,23 @@ fn ended(turn: &mut Turn) -> TurnEnd
 /// nothing is done behind them too. Where it is cut it is what is left of the turn. After want of memory it
 /// is nothing that can be run.
 pub fn run_turn(
-    alloc: Global,
     shared: &mut Shared,
     widget: &mut Widget,
     turn: &mut Turn,
     units: u32,
 ) -> Result<Ran, Memory>
-    requires number { widget.old.number < 32 }
     requires widget { FineWidget shared.old widget.old }
-    requires turn { FineTurn shared.old widget.old.number turn.old }
+    requires turn { FineTurn shared.old widget.old.id.index turn.old }
     ensures ran { IfOk result (λ r. (f : Fixed) (x : Outside)
         → RanTo units shared.old shared.new widget.old widget.new turn.old turn.new f x r) }
-    ensures fine { IfOk result (FineRan shared.new widget.new.number turn.new) }
+    ensures fine { IfOk result (FineRan shared.new widget.new.id.index turn.new) }
     ensures sound { OnOk result (FineWidget shared.new widget.new) }
-    ensures kept { KeepsTurn (forests shared.old) widget.old.number shared.old.store shared.new.store shared.old.page
-        shared.new.page widget.new.around }
-    ensures number { widget.new.number ≡ widget.old.number }
-    ensures codes { shared.new.codes ≡ shared.old.codes }
+    ensures kept { Keeps shared.old shared.new widget.old widget.new }
 {
     let start = turn.left;
     'steps: while is_open(&turn.doing) {
         let rest = units_left(start, turn.left, units);
-        let is_short = move_on(alloc, shared, widget, turn, rest)?;
+        let is_short = move_on(shared, widget, turn, rest)?;
         if is_short {
             return Ok(short(start, turn.left, units));
         }

@@ -1,7 +1,7 @@
 -- Lives that are as they were but for their queues and for how many of their posts were taken.
 use Rattle.std.proofs.Common.{◌≡◌, ℕ, zero, suc, ◌+◌, List, [], ◌∷◌, map, refl, sym, ap, ◌∙◌, subst, Some}
 use Rattle.std.specs.Prelude.{slice_get}
-use Rattle.turn_returns.specs.declared.turn.Shared.{Shared}
+use Rattle.native_image.specs.declared.handed.Shared.{Shared}
 use Rattle.slot_picks.specs.declared.lives.Place.{Place}
 use Rattle.slot_picks.specs.Places.{OwnPlace, OwnPlaces, accepts_of, codes_of, homes_of, roots_of}
 use Rattle.slot_rounds.specs.Posting.{AreAlike, IsAlike}

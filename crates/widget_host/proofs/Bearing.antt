@@ -29,7 +29,7 @@ use Rattle.slot_picks.specs.declared.lives.Place.{Place}
 use Rattle.slot_picks.specs.declared.slots.Slot.{Slot}
 use Rattle.slot_picks.specs.Lives.{AreHoused, AreStanding, FewLives, chains_of, present_of, seens_of, spots_of}
 use Rattle.slot_picks.specs.Places.{FewPlaces, accepts_of, codes_of, homes_of, is_accepted, lent, roots_of, seen_at, told_of}
-use Rattle.turn_returns.specs.declared.turn.Shared.{Shared}
+use Rattle.native_image.specs.declared.handed.Shared.{Shared}
 use Rattle.life_queue.specs.Lives.{life_seen}
 use Rattle.page_load.specs.Joining.{Comes, HasSeat, IsFree, KeepsRest, PageJoins, came, none_came}
 use Rattle.page_load.specs.Loads.{HasNothing, IsFirstLife}

@@ -10,7 +10,7 @@ use Rattle.life_laws.specs.Life as todo
 use Rattle.life_laws.specs.Life.{Seen, due, image, potential, potentials}
 use Rattle.pick_laws.specs.Journal.{queued}
 use Rattle.pick_laws.proofs.Given.{due_queued}
-use Rattle.turn_returns.specs.declared.turn.Shared.{Shared}
+use Rattle.native_image.specs.declared.handed.Shared.{Shared}
 use Rattle.slot_picks.specs.declared.lives.Place.{Place}
 use Rattle.life_queue.specs.declared.life.Work.{Work}
 use Rattle.life_queue.specs.Lives.{life_seen, trees_in, work_of, works_of}

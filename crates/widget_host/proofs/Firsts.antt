@@ -12,7 +12,7 @@ use Rattle.life_laws.specs.Life.{Seen, due, image, ready}
 use Rattle.pick_laws.specs.Journal.{AllJoined}
 use Rattle.slot_laws.specs.Chains.{Chains, Rest, Unspent, listed}
 use Rattle.slot_laws.specs.Settled.{flag}
-use Rattle.turn_returns.specs.declared.turn.Shared.{Shared}
+use Rattle.native_image.specs.declared.handed.Shared.{Shared}
 use Rattle.slot_picks.specs.declared.lives.Place.{Place}
 use Rattle.life_queue.specs.Lives.{life_seen}
 use Rattle.slot_picks.specs.Places.{FewPlace, FewPlaces, FinePlace, FinePlaces, OwnPlaces, accepts_of, codes_of, homes_of, lent, roots_of, seen_at, seens_from, told_of}

@@ -9,7 +9,7 @@ use Rattle.pick_laws.specs.Journal.{AllJoined}
 use Rattle.pick_laws.proofs.Given.{joined_given}
 use Rattle.slot_laws.specs.Chains.{Chains, Rest, Unspent}
 use Rattle.slot_laws.proofs.Housing.{unspent_given}
-use Rattle.turn_returns.specs.declared.turn.Shared.{Shared}
+use Rattle.native_image.specs.declared.handed.Shared.{Shared}
 use Rattle.slot_picks.specs.declared.lives.Place.{Place}
 use Rattle.life_queue.specs.Lives as queue
 use Rattle.life_queue.specs.Fine.{FineWork}

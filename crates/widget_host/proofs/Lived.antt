@@ -24,7 +24,7 @@ use Rattle.slot_rounds.specs.Feeding.{IsLastFed, IsLastShown, is_last}
 use Rattle.page_load.specs.Loads.{singles}
 use Rattle.slot_picks.specs.declared.lives.Place.{Place}
 use Rattle.slot_picks.specs.Places.{homes_of, seen_at, seens_from}
-use Rattle.turn_returns.specs.declared.turn.Shared.{Shared}
+use Rattle.native_image.specs.declared.handed.Shared.{Shared}
 use Rattle.widget_meaning.specs.Alone.{Content, loaded}
 use Rattle.widget_meaning.specs.Items.{Item, item}
 use Rattle.widget_host.specs.declared.host.Host.{Host}

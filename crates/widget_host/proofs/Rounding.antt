@@ -19,7 +19,7 @@ use Rattle.page_nodes.specs.Entries.{body}
 use Rattle.round_laws.specs.Fed.{Fed, round}
 use Rattle.slot_laws.specs.Chains.{Chains, Rest, Unspent, last_life}
 use Rattle.slot_laws.proofs.Housing.{unspent_given}
-use Rattle.turn_returns.specs.declared.turn.Shared.{Shared}
+use Rattle.native_image.specs.declared.handed.Shared.{Shared}
 use Rattle.page_load.specs.Loads.{HasNothing}
 use Rattle.slot_picks.specs.declared.lives.Place.{Place}
 use Rattle.slot_picks.specs.declared.slots.Slot.{Slot}

@@ -10,7 +10,7 @@ use Rattle.object_store.specs.Owned.{owned}
 use Rattle.page_build.specs.Layout.{IsLot, lot_of}
 use Rattle.page_build.specs.Standing.{AreSpots, IsSpare, IsStanding, PagePasses}
 use Rattle.page_build.proofs.Passing.{pages_here}
-use Rattle.turn_returns.specs.declared.turn.Shared.{Shared}
+use Rattle.native_image.specs.declared.handed.Shared.{Shared}
 use Rattle.slot_picks.specs.declared.lives.Lives.{Lives}
 use Rattle.slot_picks.specs.declared.lives.Place.{Place}
 use Rattle.slot_picks.specs.declared.slots.Slot.{Slot}

@@ -7,7 +7,7 @@ use Rattle.std.proofs.lemmas.Option.{slice_get_read}
 use Rattle.page_image.specs.Image.{forest}
 use Rattle.life_laws.specs.Life.{Going, Seen, image, shown}
 use Rattle.widget_meaning.specs.OwnState.{OwnState}
-use Rattle.turn_returns.specs.declared.turn.Shared.{Shared}
+use Rattle.native_image.specs.declared.handed.Shared.{Shared}
 use Rattle.slot_picks.specs.declared.lives.Lives.{Lives}
 use Rattle.slot_picks.specs.declared.lives.Place.{Place}
 use Rattle.life_queue.specs.Lives.{going_of, life_seen, own_of}

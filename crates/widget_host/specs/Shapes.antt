@@ -7,7 +7,7 @@ use Rattle.object_store.specs.Owned.{owned}
 use Rattle.widget_meaning.specs.OwnState.{OwnState}
 use Rattle.js_image.specs.Image.{meant_cell, meant_counts, meant_scope}
 use Rattle.page_image.specs.Image.{forest, own}
-use Rattle.turn_returns.specs.declared.turn.Shared.{Shared}
+use Rattle.native_image.specs.declared.handed.Shared.{Shared}
 
 -- whether a cell is a widget's: one that it sees, or one of its scopes
 abbrev pub is_widgets : PlainCell → Bool

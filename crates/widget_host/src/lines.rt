@@ -6,7 +6,7 @@ ghost use Rattle.slot_picks.specs.Lives.{FineLives, seens_of};
 ghost use Rattle.slot_picks.specs.Places.{is_accepted};
 ghost use Rattle.life_queue.specs.Lives as life;
 ghost use Rattle.life_queue.specs.Lives.{life_seen};
-ghost use Rattle.turn_returns.specs.declared.turn.Shared.{Shared as SharedOf};
+ghost use Rattle.native_image.specs.declared.handed.Shared.{Shared as SharedOf};
 ghost use Rattle.widget_host.specs.Housed.{IsHoused, IsLineOf, accepts, chains, ends, marked, meant_stop, present, seens, swaps};
 
 use crate::host::Host;

@@ -17,57 +17,62 @@ use Rattle.bunch_attributes.proofs.Focused.{focus_lift}
 use Rattle.bunch_attributes.proofs.focusing.blur.Goals as goal
 
 pub leave-requires : goal.leave-requires
-leave-requires c = c.requires.nodes.own
+leave-requires c = c.requires.bunch.nodes.own
 
-pub returns-in-Ok-clause-native : goal.returns-in-Ok-clause-native
-returns-in-Ok-clause-native c = λ b.
-    let w = c.args.w.index in
-    let p = c.args.page.now in
-    let s = c.args.store.now in
-    let l = c.args.around.now in
-    let ns = map (number p w) c.args.list.now in
-    let v = seen w s.cells (value.Ref c.args.this) in
-    let sound = c.requires.sound in
-    let t = c.begin.new.store in
-    let k = c.leave.new.around in
-    let begun = c.in-Ok.ensures.begun (length ns) Free (few_counted (number p w) c.args.list.now c.requires.nodes.few) tt in
-    let grows = (begun.kept []).grows in
-    let there = sound_stays w s t p l sound (begun.kept []) in
-    at_ended w c.args.w.small s t p l b sound c.args.meter.now c.begin.new.meter (length ns) Free (λ d u. write_method Blur ns v [] d u) (λ d y. give v (with_focus (left_focus y.own.focus ns) y))
-    (λ fs x d. let u = image fs x w (beside s p l b) in refl)
-    begun (beside t p k b) _
-    (gives_back w s c.args.this c.requires.held (beside t p l b) (beside t p k b) (seen_stays w s.cells t.cells grows (value.Ref c.args.this) c.requires.held) (held_stays w s.cells t.cells grows c.args.this c.requires.held)
-    (sound_around w t p l k there (c.leave.ensures.holds t there.holds))
-    (λ y. with_focus (left_focus y.own.focus ns) y)
-    (λ fs x. focus_lift w fs x t p l k b (left_focus (image fs x w (beside t p l b)).own.focus ns) (c.leave.ensures.shown (own_count w t.cells) (image fs x w (beside t p l b)) (image_shows w fs x t p l b there.holds))))
+pub returns-in-Ok : goal.returns-in-Ok
+returns-in-Ok c = record {
+  refines =
+      let b = c.args.widget.now.bubbled in let w = c.args.widget.now.id.index in
+      let p = c.args.shared.now.page in
+      let s = c.args.shared.now.store in
+      let l = c.args.widget.now.around in
+      let ns = map (number p w) c.args.bunch.now.nodes.now in
+      let v = seen w s.cells (value.Ref c.args.bunch.now.cell) in
+      let sound = c.requires.sound in
+      let t = c.begin.new.store in
+      let k = c.leave.new.around in
+      let begun = c.in-Ok.ensures.begun (length ns) Free (few_counted (number p w) c.args.bunch.now.nodes.now c.requires.bunch.nodes.few) tt in
+      let grows = (begun.kept []).grows in
+      let there = sound_stays w s t p l sound (begun.kept []) in
+      at_ended w c.args.widget.now.id.small s t p l b sound c.args.meter.now c.begin.new.meter (length ns) Free (λ d u. write_method Blur ns v [] d u) (λ d y. give v (with_focus (left_focus y.own.focus ns) y))
+      (λ fs x d. let u = image fs x w (beside s p l b) in refl)
+      begun (beside t p k b) _
+      (gives_back w s c.args.bunch.now.cell c.requires.bunch.held (beside t p l b) (beside t p k b) (seen_stays w s.cells t.cells grows (value.Ref c.args.bunch.now.cell) c.requires.bunch.held) (held_stays w s.cells t.cells grows c.args.bunch.now.cell c.requires.bunch.held)
+      (sound_around w t p l k there (c.leave.ensures.holds t there.holds))
+      (λ y. with_focus (left_focus y.own.focus ns) y)
+      (λ fs x. focus_lift w fs x t p l k b (left_focus (image fs x w (beside t p l b)).own.focus ns) (c.leave.ensures.shown (own_count w t.cells) (image fs x w (beside t p l b)) (image_shows w fs x t p l b there.holds))));
+  kept =
+      let w = c.args.widget.now.id.index in
+      let p = c.args.shared.now.page in
+      let s = c.args.shared.now.store in
+      let l = c.args.widget.now.around in
+      let ns = map (number p w) c.args.bunch.now.nodes.now in
+      let v = seen w s.cells (value.Ref c.args.bunch.now.cell) in
+      let sound = c.requires.sound in
+      let t = c.begin.new.store in
+      let k = c.leave.new.around in
+      let there = keeps_store w s t p l sound.holds c.begin.ensures.kept in
+      record { store = there.store; page = there.page; host = there.host; holds = c.leave.ensures.holds t there.holds };
+  codes = refl;
+  rest = refl;
+}
 
-pub returns-in-Ok-clause-kept : goal.returns-in-Ok-clause-kept
-returns-in-Ok-clause-kept c =
-    let w = c.args.w.index in
-    let p = c.args.page.now in
-    let s = c.args.store.now in
-    let l = c.args.around.now in
-    let ns = map (number p w) c.args.list.now in
-    let v = seen w s.cells (value.Ref c.args.this) in
-    let sound = c.requires.sound in
-    let t = c.begin.new.store in
-    let k = c.leave.new.around in
-    let there = keeps_store w s t p l sound.holds c.begin.ensures.kept in
-    record { store = there.store; page = there.page; host = there.host; holds = c.leave.ensures.holds t there.holds }
-
-pub returns-in-Err-clause-native : goal.returns-in-Err-clause-native
-returns-in-Err-clause-native c = λ b.
-    let w = c.args.w.index in
-    let p = c.args.page.now in
-    let s = c.args.store.now in
-    let l = c.args.around.now in
-    let ns = map (number p w) c.args.list.now in
-    let v = seen w s.cells (value.Ref c.args.this) in
-    let sound = c.requires.sound in
-    at_refused w c.args.w.small s c.begin.new.store p l b sound c.args.meter.now c.begin.new.meter (length ns) Free (λ d u. write_method Blur ns v [] d u) (λ d y. give v (with_focus (left_focus y.own.focus ns) y))
-    (λ fs x d. let u = image fs x w (beside s p l b) in refl)
-    c.in-Err.out c.in-Err.ensures.fires
-    (c.in-Err.ensures.refused (length ns) Free (λ d y. give v (with_focus (left_focus y.own.focus ns) y)) (few_counted (number p w) c.args.list.now c.requires.nodes.few) tt)
-
-pub returns-in-Err-clause-kept : goal.returns-in-Err-clause-kept
-returns-in-Err-clause-kept c = keeps_store c.args.w.index c.args.store.now c.begin.new.store c.args.page.now c.args.around.now c.requires.sound.holds c.begin.ensures.kept
+pub returns-in-Err : goal.returns-in-Err
+returns-in-Err c = record {
+  refines =
+      let b = c.args.widget.now.bubbled in let w = c.args.widget.now.id.index in
+      let p = c.args.shared.now.page in
+      let s = c.args.shared.now.store in
+      let l = c.args.widget.now.around in
+      let ns = map (number p w) c.args.bunch.now.nodes.now in
+      let v = seen w s.cells (value.Ref c.args.bunch.now.cell) in
+      let sound = c.requires.sound in
+      at_refused w c.args.widget.now.id.small s c.begin.new.store p l b sound c.args.meter.now c.begin.new.meter (length ns) Free (λ d u. write_method Blur ns v [] d u) (λ d y. give v (with_focus (left_focus y.own.focus ns) y))
+      (λ fs x d. let u = image fs x w (beside s p l b) in refl)
+      c.in-Err.out c.in-Err.ensures.fires
+      (c.in-Err.ensures.refused (length ns) Free (λ d y. give v (with_focus (left_focus y.own.focus ns) y)) (few_counted (number p w) c.args.bunch.now.nodes.now c.requires.bunch.nodes.few) tt);
+  kept =
+      keeps_store c.args.widget.now.id.index c.args.shared.now.store c.begin.new.store c.args.shared.now.page c.args.widget.now.around c.requires.sound.holds c.begin.ensures.kept;
+  codes = refl;
+  rest = refl;
+}

@@ -1,24 +1,37 @@
-use Rattle.std.proofs.Common.{◌∷◌, [], map, ap, sym, codes}
+use Rattle.std.proofs.Common.{◌∷◌, [], map, length, ap, sym, ◌∙◌, codes}
+use Rattle.std.specs.List.{fold}
 use Rattle.store_cells.specs.declared.value.Value.TheVariants as value
 use Rattle.widget_meaning.specs.BunchWrites as means
-use Rattle.widget_meaning.specs.BunchWrites.{write_method}
+use Rattle.widget_meaning.specs.BunchWrites.{relabel, write_method}
+use Rattle.widget_meaning.specs.Costs.{give}
 use Rattle.permitted_table.specs.declared.native.WriteNative.TheVariants.{SetCheck}
-use Rattle.widget_meaning.specs.PageForms.{is_input}
+use Rattle.widget_meaning.specs.PageForms.{is_input, want_all}
+use Rattle.widget_meaning.specs.Plan.{charge}
 use Rattle.js_image.specs.Image.{seen}
 use Rattle.page_image.specs.Image.{number}
-use Rattle.native_image.specs.Image.{beside, image}
-use Rattle.native_image.proofs.Working.{ok_at_same}
+use Rattle.native_image.specs.Charges.{Free}
+use Rattle.native_image.specs.Handed.{parts}
+use Rattle.native_image.specs.Image.{image}
+use Rattle.native_image.proofs.Reading.{writes_memory, writes_same}
+use Rattle.bunch_attributes.specs.Labels.{relabel_plan}
+use Rattle.bunch_attributes.specs.declared.judging.Test.TheVariants as test
 use Rattle.bunch_attributes.proofs.labels.set_check.Goals as goal
 
-pub returns-clause-native : goal.returns-clause-native
-returns-clause-native c = λ l b sound.
-    let w = c.args.w.index in
-    let p = c.args.page.now in
-    let s = c.args.store.now in
-    let h = beside s p l b in
-    let ns = map (number p w) c.args.list.now in
-    let v = seen w s.cells (value.Ref c.args.this) in
+pub returns-in_err-flag : goal.returns-in_err-flag
+returns-in_err-flag c = writes_memory c.args.shared.now c.args.widget.now c.requires.sound c.args.meter.now c.args.meter.now _ c.from_residual.result c.from_residual.ensures.0
+
+pub returns : goal.returns
+returns c =
+    let w = c.args.widget.now.id.index in
+    let p = c.args.shared.now.page in
+    let s = c.args.shared.now.store in
+    let h = parts c.args.shared.now c.args.widget.now in
+    let ns = map (number p w) c.args.bunch.now.nodes.now in
+    let v = seen w s.cells (value.Ref c.args.bunch.now.cell) in
     let t = seen w s.cells c.args.value.now in
-    ok_at_same w h (beside c.set_flag.new.store c.set_flag.new.page l b) (λ d u. write_method SetCheck ns v (t ∷ []) d u) (λ d u. means.set_flag (is_input u) ns (codes "checked") c.is_true.result v u) c.set_flag.result c.args.meter.now c.set_flag.new.meter
-    (λ fs x d. let u = image fs x w h in ap (λ k. means.set_flag (is_input u) ns (codes "checked") k v u) (sym (c.is_true.ensures w s.cells)))
-    (c.set_flag.ensures.native l b sound)
+    writes_same c.args.shared.now c.relabel.new.shared c.args.widget.now c.args.widget.now c.args.meter.now c.relabel.new.meter (λ d u. write_method SetCheck ns v (t ∷ []) d u) (λ d u. relabel_plan test.Input c.in_ok-flag.field-0 Free ns v u) c.relabel.result
+    (λ fs x d.
+    let u = image fs x w h in
+    ap (λ k. means.set_flag (is_input u) ns (codes "checked") k v u) (sym (c.is_true.ensures w s.cells))
+    ∙ (λ j. want_all (is_input u) ns u (charge (length ns) u (give v (fold (relabel (λ y. sym (c.in_ok-flag.ensures y) j)) u ns)))))
+    (c.relabel.ensures Free tt)

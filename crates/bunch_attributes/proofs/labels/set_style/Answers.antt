@@ -16,64 +16,58 @@ use Rattle.js_image.specs.Image.{seen}
 use Rattle.native_common.specs.Numbers.{counted}
 use Rattle.page_image.specs.Image.{number}
 use Rattle.native_image.specs.Charges.{OfUnits, pay_for}
-use Rattle.native_image.specs.Image.{beside, image}
-use Rattle.native_image.proofs.Keeping.{keeps_here}
+use Rattle.native_image.specs.Image.{image}
 use Rattle.native_image.proofs.Wants.{objects_of, primitives_of, unwanted, wanted}
-use Rattle.native_image.proofs.Working.{at_thrown, ok_at_same}
 use Rattle.bunch_attributes.specs.Labels.{relabel_plan}
 use Rattle.bunch_attributes.specs.Tests.{passes}
 use Rattle.bunch_attributes.specs.declared.judging.Test.TheVariants as test
 use Rattle.bunch_attributes.specs.declared.relabelling.Label.TheVariants as label
+use Rattle.native_image.specs.Handed.{parts}
+use Rattle.native_image.proofs.Reading.{writes_memory, writes_same, writes_thrown}
 use Rattle.bunch_attributes.proofs.labels.set_style.Goals as goal
 
-pub returns-then-either_object-clause-native : goal.returns-then-either_object-clause-native
-returns-then-either_object-clause-native c = λ l b sound.
-    let w = c.args.w.index in
-    let p = c.args.page.now in
-    let s = c.args.store.now in
-    let h = beside s p l b in
-    let ns = map (number p w) c.args.list.now in
-    let v = seen w s.cells (value.Ref c.args.this) in
+pub returns-then-either_object : goal.returns-then-either_object
+returns-then-either_object c =
+    let w = c.args.widget.now.id.index in
+    let p = c.args.shared.now.page in
+    let s = c.args.shared.now.store in
+    let h = parts c.args.shared.now c.args.widget.now in
+    let ns = map (number p w) c.args.bunch.now.nodes.now in
+    let v = seen w s.cells (value.Ref c.args.bunch.now.cell) in
     let a = seen w s.cells c.args.property.now in
     let t = seen w s.cells c.args.value.now in
-    at_thrown w h (λ d u. write_method SetStyle ns v (a ∷ t ∷ []) d u) fault.E4 c.args.meter.now sound
+    writes_thrown c.args.shared.now c.args.widget.now c.requires.sound (λ d u. write_method SetStyle ns v (a ∷ t ∷ []) d u) fault.E4 c.args.meter.now
     (λ fs x d. let u = image fs x w h in objects_of a t u (means.set_style ns (to_text a) (to_text t) v u) (sym (c.either_object.ensures w s.cells) ∙ c.if-either_object.true))
 
-pub returns-then-either_object-clause-kept : goal.returns-then-either_object-clause-kept
-returns-then-either_object-clause-kept c = λ l sound. keeps_here c.args.w.index c.args.store.now c.args.page.now l sound.holds
+pub returns-in_err-property : goal.returns-in_err-property
+returns-in_err-property c = writes_memory c.args.shared.now c.args.widget.now c.requires.sound c.args.meter.now c.args.meter.now _ c.from_residual.result c.from_residual.ensures.0
 
-pub returns-in_err-property-clause-kept : goal.returns-in_err-property-clause-kept
-returns-in_err-property-clause-kept c = λ l sound. keeps_here c.args.w.index c.args.store.now c.args.page.now l sound.holds
+pub returns-in_err-value : goal.returns-in_err-value
+returns-in_err-value c = writes_memory c.args.shared.now c.args.widget.now c.requires.sound c.args.meter.now c.args.meter.now _ c.from_residual-in_err-value.result c.from_residual-in_err-value.ensures.0
 
-pub returns-in_err-value-clause-kept : goal.returns-in_err-value-clause-kept
-returns-in_err-value-clause-kept c = λ l sound. keeps_here c.args.w.index c.args.store.now c.args.page.now l sound.holds
-
-pub returns-then-not-may_style-clause-native : goal.returns-then-not-may_style-clause-native
-returns-then-not-may_style-clause-native c = λ l b sound.
-    let w = c.args.w.index in
-    let p = c.args.page.now in
-    let s = c.args.store.now in
-    let h = beside s p l b in
-    let ns = map (number p w) c.args.list.now in
-    let v = seen w s.cells (value.Ref c.args.this) in
+pub returns-then-not-may_style : goal.returns-then-not-may_style
+returns-then-not-may_style c =
+    let w = c.args.widget.now.id.index in
+    let p = c.args.shared.now.page in
+    let s = c.args.shared.now.store in
+    let h = parts c.args.shared.now c.args.widget.now in
+    let ns = map (number p w) c.args.bunch.now.nodes.now in
+    let v = seen w s.cells (value.Ref c.args.bunch.now.cell) in
     let a = seen w s.cells c.args.property.now in
     let t = seen w s.cells c.args.value.now in
-    at_thrown w h (λ d u. write_method SetStyle ns v (a ∷ t ∷ []) d u) fault.E4 c.args.meter.now sound
+    writes_thrown c.args.shared.now c.args.widget.now c.requires.sound (λ d u. write_method SetStyle ns v (a ∷ t ∷ []) d u) fault.E4 c.args.meter.now
     (λ fs x d. let u = image fs x w h in primitives_of a t u (means.set_style ns (to_text a) (to_text t) v u) (sym (c.either_object.ensures w s.cells) ∙ c.if-either_object.false) ∙ unwanted E4 (is_listed (to_text a) && (nat_eq (length (to_text t)) 0 || is_value (to_text t))) u (want_all (passes test.Element u) ns u (charge (length ns) u (pay_for (OfUnits (length ns * length (to_text t))) u (λ y. give v (fold (relabel (means.styled (to_text a) (to_text t))) y ns))))) ((λ j. is_listed (sym (c.in_ok-property.ensures w s.cells) j) && (nat_eq (length (sym (c.in_ok-value.ensures w s.cells) j)) 0 || is_value (sym (c.in_ok-value.ensures w s.cells) j))) ∙ sym c.may_style.ensures ∙ c.if-not-may_style.true))
 
-pub returns-then-not-may_style-clause-kept : goal.returns-then-not-may_style-clause-kept
-returns-then-not-may_style-clause-kept c = λ l sound. keeps_here c.args.w.index c.args.store.now c.args.page.now l sound.holds
-
-pub returns-clause-native : goal.returns-clause-native
-returns-clause-native c = λ l b sound.
-    let w = c.args.w.index in
-    let p = c.args.page.now in
-    let s = c.args.store.now in
-    let h = beside s p l b in
-    let ns = map (number p w) c.args.list.now in
-    let v = seen w s.cells (value.Ref c.args.this) in
+pub returns : goal.returns
+returns c =
+    let w = c.args.widget.now.id.index in
+    let p = c.args.shared.now.page in
+    let s = c.args.shared.now.store in
+    let h = parts c.args.shared.now c.args.widget.now in
+    let ns = map (number p w) c.args.bunch.now.nodes.now in
+    let v = seen w s.cells (value.Ref c.args.bunch.now.cell) in
     let a = seen w s.cells c.args.property.now in
     let t = seen w s.cells c.args.value.now in
-    ok_at_same w h (beside c.relabel.new.store c.relabel.new.page l b) (λ d u. write_method SetStyle ns v (a ∷ t ∷ []) d u) (λ d u. relabel_plan test.Element (label.Style c.in_ok-property.property c.in_ok-value.value) (OfUnits (length ns * length c.in_ok-value.value)) ns v u) c.relabel.result c.args.meter.now c.relabel.new.meter
+    writes_same c.args.shared.now c.relabel.new.shared c.args.widget.now c.args.widget.now c.args.meter.now c.relabel.new.meter (λ d u. write_method SetStyle ns v (a ∷ t ∷ []) d u) (λ d u. relabel_plan test.Element (label.Style c.in_ok-property.property c.in_ok-value.value) (OfUnits (length ns * length c.in_ok-value.value)) ns v u) c.relabel.result
     (λ fs x d. let u = image fs x w h in primitives_of a t u (means.set_style ns (to_text a) (to_text t) v u) (sym (c.either_object.ensures w s.cells) ∙ c.if-either_object.false) ∙ wanted E4 (is_listed (to_text a) && (nat_eq (length (to_text t)) 0 || is_value (to_text t))) u (want_all (passes test.Element u) ns u (charge (length ns) u (pay_for (OfUnits (length ns * length (to_text t))) u (λ y. give v (fold (relabel (means.styled (to_text a) (to_text t))) y ns))))) ((λ j. is_listed (sym (c.in_ok-property.ensures w s.cells) j) && (nat_eq (length (sym (c.in_ok-value.ensures w s.cells) j)) 0 || is_value (sym (c.in_ok-value.ensures w s.cells) j))) ∙ sym c.may_style.ensures ∙ c.if-not-may_style.false) ∙ (λ j. relabel_plan test.Element (label.Style (sym (c.in_ok-property.ensures w s.cells) j) (sym (c.in_ok-value.ensures w s.cells) j)) (OfUnits (length ns * length (sym (c.in_ok-value.ensures w s.cells) j))) ns v u))
-    (c.relabel.ensures.native l b (OfUnits (length ns * length c.in_ok-value.value)) sound (c.units_for.ensures ∙ ap (λ k. counted (k * length c.in_ok-value.value)) (sym (length-map c.args.list.now (number p w)))))
+    (c.relabel.ensures (OfUnits (length ns * length c.in_ok-value.value)) (c.units_for.ensures ∙ ap (λ k. counted (k * length c.in_ok-value.value)) (sym (length-map c.args.bunch.now.nodes.now (number p w)))))

@@ -6,21 +6,22 @@ use Rattle.permitted_table.specs.declared.native.WriteNative.TheVariants.{Protec
 use Rattle.js_image.specs.Image.{seen}
 use Rattle.page_image.specs.Image.{number}
 use Rattle.native_image.specs.Charges.{Free}
-use Rattle.native_image.specs.Image.{beside, image}
-use Rattle.native_image.proofs.Working.{ok_at_same}
+use Rattle.native_image.specs.Image.{image}
 use Rattle.bunch_attributes.specs.declared.keeping.Change.TheVariants as change
 use Rattle.bunch_attributes.specs.Kept.{keep_plan, meant}
+use Rattle.native_image.specs.Handed.{parts}
+use Rattle.native_image.proofs.Reading.{writes_same}
 use Rattle.bunch_attributes.proofs.listening.protect.Goals as goal
 
-pub returns-clause-native : goal.returns-clause-native
-returns-clause-native c = λ b.
-    let w = c.args.w.index in
-    let p = c.args.page.now in
-    let s = c.args.store.now in
-    let l = c.args.around.now in
-    let h = beside s p l b in
-    let ns = map (number p w) c.args.list.now in
-    let v = seen w s.cells (value.Ref c.args.this) in
-    ok_at_same w h (beside c.keep.new.store p c.keep.new.around b) (λ d u. write_method Protect ns v [] d u) (λ d u. keep_plan (meant (own_count w s.cells) (change.Protect)) Free ns v u) c.keep.result c.args.meter.now c.keep.new.meter
+pub returns : goal.returns
+returns c =
+    let w = c.args.widget.now.id.index in
+    let p = c.args.shared.now.page in
+    let s = c.args.shared.now.store in
+    let l = c.args.widget.now.around in
+    let h = parts c.args.shared.now c.args.widget.now in
+    let ns = map (number p w) c.args.bunch.now.nodes.now in
+    let v = seen w s.cells (value.Ref c.args.bunch.now.cell) in
+    writes_same c.args.shared.now c.keep.new.shared c.args.widget.now c.keep.new.widget c.args.meter.now c.keep.new.meter (λ d u. write_method Protect ns v [] d u) (λ d u. keep_plan (meant (own_count w s.cells) (change.Protect)) Free ns v u) c.keep.result
     (λ fs x d. let u = image fs x w h in refl)
-    (c.keep.ensures.native b Free tt)
+    (c.keep.ensures Free tt)

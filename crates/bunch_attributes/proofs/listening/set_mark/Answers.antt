@@ -8,41 +8,38 @@ use Rattle.js_image.specs.declared.outcome.Fault.TheVariants as fault
 use Rattle.js_image.specs.Image.{seen}
 use Rattle.page_image.specs.Image.{number}
 use Rattle.native_image.specs.Charges.{Free}
-use Rattle.native_image.specs.Image.{beside, image}
-use Rattle.native_image.proofs.Keeping.{keeps_here}
-use Rattle.native_image.proofs.Working.{at_thrown, ok_at_same}
+use Rattle.native_image.specs.Image.{image}
 use Rattle.bunch_attributes.specs.declared.keeping.Change.TheVariants as change
 use Rattle.bunch_attributes.specs.Kept.{keep_plan, meant}
 use Rattle.bunch_attributes.proofs.Heard.{mark_object, mark_text}
+use Rattle.native_image.specs.Handed.{parts}
+use Rattle.native_image.proofs.Reading.{writes_memory, writes_same, writes_thrown}
 use Rattle.bunch_attributes.proofs.listening.set_mark.Goals as goal
 
-pub returns-then-is_object-clause-native : goal.returns-then-is_object-clause-native
-returns-then-is_object-clause-native c = λ b.
-    let w = c.args.w.index in
-    let p = c.args.page.now in
-    let s = c.args.store.now in
-    let l = c.args.around.now in
-    let h = beside s p l b in
-    let ns = map (number p w) c.args.list.now in
-    let v = seen w s.cells (value.Ref c.args.this) in
-    at_thrown w h (λ d u. write_method SetMark ns v (seen w s.cells c.args.value.now ∷ []) d u) fault.E4 c.args.meter.now c.requires.sound
+pub returns-then-is_object : goal.returns-then-is_object
+returns-then-is_object c =
+    let w = c.args.widget.now.id.index in
+    let p = c.args.shared.now.page in
+    let s = c.args.shared.now.store in
+    let l = c.args.widget.now.around in
+    let h = parts c.args.shared.now c.args.widget.now in
+    let ns = map (number p w) c.args.bunch.now.nodes.now in
+    let v = seen w s.cells (value.Ref c.args.bunch.now.cell) in
+    writes_thrown c.args.shared.now c.args.widget.now c.requires.sound (λ d u. write_method SetMark ns v (seen w s.cells c.args.value.now ∷ []) d u) fault.E4 c.args.meter.now
     (λ fs x d. let u = image fs x w h in mark_object ns v (seen w s.cells c.args.value.now) d u (sym (c.is_object.ensures.object w s.cells) ∙ c.if-is_object.true))
 
-pub returns-then-is_object-clause-kept : goal.returns-then-is_object-clause-kept
-returns-then-is_object-clause-kept c = keeps_here c.args.w.index c.args.store.now c.args.page.now c.args.around.now c.requires.sound.holds
+pub returns-in_err-text : goal.returns-in_err-text
+returns-in_err-text c = writes_memory c.args.shared.now c.args.widget.now c.requires.sound c.args.meter.now c.args.meter.now _ c.from_residual.result c.from_residual.ensures.0
 
-pub returns-in_err-text-clause-kept : goal.returns-in_err-text-clause-kept
-returns-in_err-text-clause-kept c = keeps_here c.args.w.index c.args.store.now c.args.page.now c.args.around.now c.requires.sound.holds
-
-pub returns-clause-native : goal.returns-clause-native
-returns-clause-native c = λ b.
-    let w = c.args.w.index in
-    let p = c.args.page.now in
-    let s = c.args.store.now in
-    let l = c.args.around.now in
-    let h = beside s p l b in
-    let ns = map (number p w) c.args.list.now in
-    let v = seen w s.cells (value.Ref c.args.this) in
-    ok_at_same w h (beside c.keep.new.store p c.keep.new.around b) (λ d u. write_method SetMark ns v (seen w s.cells c.args.value.now ∷ []) d u) (λ d u. keep_plan (meant (own_count w s.cells) (change.Mark c.in_ok-text.text)) Free ns v u) c.keep.result c.args.meter.now c.keep.new.meter
+pub returns : goal.returns
+returns c =
+    let w = c.args.widget.now.id.index in
+    let p = c.args.shared.now.page in
+    let s = c.args.shared.now.store in
+    let l = c.args.widget.now.around in
+    let h = parts c.args.shared.now c.args.widget.now in
+    let ns = map (number p w) c.args.bunch.now.nodes.now in
+    let v = seen w s.cells (value.Ref c.args.bunch.now.cell) in
+    writes_same c.args.shared.now c.keep.new.shared c.args.widget.now c.keep.new.widget c.args.meter.now c.keep.new.meter (λ d u. write_method SetMark ns v (seen w s.cells c.args.value.now ∷ []) d u) (λ d u. keep_plan (meant (own_count w s.cells) (change.Mark c.in_ok-text.text)) Free ns v u) c.keep.result
     (λ fs x d. let u = image fs x w h in mark_text ns v (seen w s.cells c.args.value.now) d u (sym (c.is_object.ensures.object w s.cells) ∙ c.if-is_object.false) ∙ (λ j. alter_each (change_kept (marked (sym (c.in_ok-text.ensures w s.cells) j))) ns v u))
-    (c.keep.ensures.native b Free tt)
+    (c.keep.ensures Free tt)

@@ -8,4 +8,4 @@ use Rattle.bunch_read.proofs.finding.all_open.Given as goal
 
 -- those before are open
 abbrev pub invariant-each : goal.invariant-each
-invariant-each l = (g : ℕ → ℕ) (s : State) → Shows l.page l.w.index g l.around s.own → list_all (has_open_parent s) (map (number l.page l.w.index) (take l.node-index l.list)) ≡ true
+invariant-each l = (g : ℕ → ℕ) (s : State) → Shows l.page l.w g l.around s.own → list_all (has_open_parent s) (map (number l.page l.w) (take l.node-index l.list)) ≡ true

@@ -8,10 +8,10 @@ pub keep_open-requires : goal.keep_open-requires
 keep_open-requires c = c.requires _ (element_in c.args.list.now c.each.node-index c.each-test.true)
 
 pub each-init : goal.each-init
-each-init c = λ g s shows. subst (Opens c.args.page.now c.args.w.index s []) (sym c.new-found.ensures.items) (opens_none c.args.page.now c.args.w.index s)
+each-init c = λ g s shows. subst (Opens c.args.page.now c.args.w s []) (sym c.new-found.ensures.items) (opens_none c.args.page.now c.args.w s)
 
 pub each-preserved : goal.each-preserved
-each-preserved c = λ g s shows. opens_more c.args.page.now c.args.w.index s c.args.list.now c.each.found.items _ c.each.node-index c.each-test.true (c.requires _ (element_in c.args.list.now c.each.node-index c.each-test.true)) (c.each.invariant g s shows) (c.in_ok-keep_open.ensures g s shows)
+each-preserved c = λ g s shows. opens_more c.args.page.now c.args.w s c.args.list.now c.each.found.items _ c.each.node-index c.each-test.true (c.requires _ (element_in c.args.list.now c.each.node-index c.each-test.true)) (c.each.invariant g s shows) (c.in_ok-keep_open.ensures g s shows)
 
 pub returns : goal.returns
-returns c = λ g s shows. opens_all c.args.page.now c.args.w.index s c.args.list.now c.each.found.items c.each.node-index c.each-test.false (c.each.invariant g s shows)
+returns c = λ g s shows. opens_all c.args.page.now c.args.w s c.args.list.now c.each.found.items c.each.node-index c.each-test.false (c.each.invariant g s shows)

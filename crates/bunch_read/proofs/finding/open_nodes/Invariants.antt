@@ -6,4 +6,4 @@ use Rattle.bunch_read.proofs.finding.open_nodes.Given as goal
 
 -- those that were kept
 abbrev pub invariant-each : goal.invariant-each
-invariant-each l = (g : ℕ → ℕ) (s : State) → Shows l.page l.w.index g l.around s.own → Opens l.page l.w.index s (take l.node-index l.list) l.found.items
+invariant-each l = (g : ℕ → ℕ) (s : State) → Shows l.page l.w g l.around s.own → Opens l.page l.w s (take l.node-index l.list) l.found.items

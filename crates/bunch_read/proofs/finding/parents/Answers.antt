@@ -20,7 +20,7 @@ keep_parent-requires-clause-found c = c.each.invariant.apart
 pub each-preserved : goal.each-preserved
 each-preserved c =
     let p = c.args.page.now in
-    let w = c.args.w.index in
+    let w = c.args.w in
     record {
       same = c.in_ok-keep_parent.ensures.same;
       image = λ s there.
@@ -31,7 +31,7 @@ each-preserved c =
     }
 
 pub returns-clause-image : goal.returns-clause-image
-returns-clause-image c = λ s there. c.each.invariant.image s there ∙ ap (λ l. once [] (filter_map (λ n. parent n s.own.forest) l)) (mapped_whole (number c.args.page.now c.args.w.index) c.args.list.now c.each.node-index c.each-test.false)
+returns-clause-image c = λ s there. c.each.invariant.image s there ∙ ap (λ l. once [] (filter_map (λ n. parent n s.own.forest) l)) (mapped_whole (number c.args.page.now c.args.w) c.args.list.now c.each.node-index c.each-test.false)
 
 pub returns-clause-apart : goal.returns-clause-apart
 returns-clause-apart c = c.each.invariant.apart

@@ -11,6 +11,6 @@ use Rattle.bunch_read.proofs.finding.parents.Given as goal
 abbrev pub invariant-each : goal.invariant-each
 invariant-each l = record {
   same : l.seen.keys ≡ l.found.items;
-  image : (s : State) → s.own.forest ≡ forest l.page l.w.index → map (number l.page l.w.index) l.found.items ≡ once [] (filter_map (λ n. parent n s.own.forest) (map (number l.page l.w.index) (take l.node-index l.list)));
-  apart : AreApart l.page l.w.index l.found.items;
+  image : (s : State) → s.own.forest ≡ forest l.page l.w → map (number l.page l.w) l.found.items ≡ once [] (filter_map (λ n. parent n s.own.forest) (map (number l.page l.w) (take l.node-index l.list)));
+  apart : AreApart l.page l.w l.found.items;
 }

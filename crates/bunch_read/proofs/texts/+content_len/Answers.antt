@@ -12,17 +12,17 @@ use Rattle.bunch_read.proofs.texts.+content_len.Goals as goal
 pub content_len-requires : goal.content_len-requires
 content_len-requires t c =
     let items = c.children-child-items.result.now in (
-      omega (arith, c.decreases, lower c.args.page.now c.args.w.index c.args.node c.requires items c.children-child-items.ensures.image c.each.child-index c.each-test.true),
+      omega (arith, c.decreases, lower c.args.page.now c.args.w c.args.node c.requires items c.children-child-items.ensures.image c.each.child-index c.each-test.true),
       c.children-child-items.ensures.own _ (element_in items c.each.child-index c.each-test.true),
     )
 
 pub each-init : goal.each-init
-each-init t c = first_counted c.own_len-len.result (length (own_text (at (nodes c.args.page.now) c.args.node).label)) (c.own_len-len.ensures _ (label_at c.args.page.now c.args.w.index c.args.node c.requires))
+each-init t c = first_counted c.own_len-len.result (length (own_text (at (nodes c.args.page.now) c.args.node).label)) (c.own_len-len.ensures _ (label_at c.args.page.now c.args.w c.args.node c.requires))
 
 pub each-preserved : goal.each-preserved
 each-preserved t c =
     let p = c.args.page.now in
-    let w = c.args.w.index in
+    let w = c.args.w in
     let items = c.children-child-items.result.now in
     let i = c.each.child-index in
     let e : length (texts p w (take (i + 1) items)) ≡ length (texts p w (take i items)) + length (texts_of (own_tree p w (get_or items i 0))) = ap length (texts_more p w items i c.each-test.true) ∙ length-append (texts p w (take i items)) (texts_of (own_tree p w (get_or items i 0))) in
@@ -31,7 +31,7 @@ each-preserved t c =
 pub returns : goal.returns
 returns t c =
     let p = c.args.page.now in
-    let w = c.args.w.index in
+    let w = c.args.w in
     let items = c.children-child-items.result.now in
     let i = c.each.child-index in
     let l = (at (nodes p) c.args.node).label in

@@ -6,7 +6,7 @@ use Rattle.bunch_read.proofs.texts.+content_len.Given as goal
 
 -- what was counted of the children
 abbrev pub invariant-each : goal.invariant-each
-invariant-each l = l.len ≡ counted (l.initial.len + length (texts l.page l.w.index (take l.child-index l.child-items)))
+invariant-each l = l.len ≡ counted (l.initial.len + length (texts l.page l.w (take l.child-index l.child-items)))
 
 abbrev pub decreases-content_len : goal.decreases-content_len
-decreases-content_len l = height (own_tree l.page.now l.w.index l.node)
+decreases-content_len l = height (own_tree l.page.now l.w l.node)

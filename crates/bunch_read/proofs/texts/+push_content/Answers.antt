@@ -7,14 +7,14 @@ use Rattle.bunch_read.proofs.texts.+push_content.Goals as goal
 pub push_content-requires : goal.push_content-requires
 push_content-requires t c =
     let items = c.children-child-items.result.now in (
-      omega (arith, c.decreases, lower c.args.page.now c.args.w.index c.args.node c.requires items c.children-child-items.ensures.image c.each.child-index c.each-test.true),
+      omega (arith, c.decreases, lower c.args.page.now c.args.w c.args.node c.requires items c.children-child-items.ensures.image c.each.child-index c.each-test.true),
       c.children-child-items.ensures.own _ (element_in items c.each.child-index c.each-test.true),
     )
 
 pub each-preserved : goal.each-preserved
 each-preserved t c =
     let p = c.args.page.now in
-    let w = c.args.w.index in
+    let w = c.args.w in
     let items = c.children-child-items.result.now in
     let i = c.each.child-index in
     let begun = c.extend_from_slice.new.self.items in
@@ -27,7 +27,7 @@ each-preserved t c =
 pub returns : goal.returns
 returns t c =
     let p = c.args.page.now in
-    let w = c.args.w.index in
+    let w = c.args.w in
     let items = c.children-child-items.result.now in
     let i = c.each.child-index in
     c.each.invariant

@@ -7,4 +7,4 @@ use Rattle.bunch_read.proofs.texts.values_len.Given as goal
 
 -- the units so far
 abbrev pub invariant-each : goal.invariant-each
-invariant-each l = (s : State) → s.own.forest ≡ forest l.page l.w.index → l.len ≡ counted (all_units s (map (number l.page l.w.index) (take l.node-index l.list)))
+invariant-each l = (s : State) → s.own.forest ≡ forest l.page l.w → l.len ≡ counted (all_units s (map (number l.page l.w) (take l.node-index l.list)))

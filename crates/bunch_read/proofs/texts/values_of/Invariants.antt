@@ -7,4 +7,4 @@ use Rattle.bunch_read.proofs.texts.values_of.Given as goal
 
 -- the values so far
 abbrev pub invariant-each : goal.invariant-each
-invariant-each l = (s : State) → s.own.forest ≡ forest l.page l.w.index → l.values.items ≡ map value.Text (map (means.value_of s) (map (number l.page l.w.index) (take l.node-index l.list)))
+invariant-each l = (s : State) → s.own.forest ≡ forest l.page l.w → l.values.items ≡ map value.Text (map (means.value_of s) (map (number l.page l.w) (take l.node-index l.list)))

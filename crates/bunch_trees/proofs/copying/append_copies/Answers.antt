@@ -7,6 +7,7 @@ use Rattle.page_image.specs.Image.{forest, number, owns}
 use Rattle.page_image.proofs.Results.{ok_then}
 use Rattle.native_image.proofs.Keeping.{keeps_paged, keeps_then, sound_page}
 use Rattle.bunch_trees.proofs.Grafted.{copies_come}
+use Rattle.native_image.specs.Handed.{state}
 use Rattle.bunch_trees.proofs.copying.append_copies.Goals as goal
 
 pub put_under-requires-clause-home : goal.put_under-requires-clause-home

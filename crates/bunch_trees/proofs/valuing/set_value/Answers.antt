@@ -7,48 +7,39 @@ use Rattle.widget_meaning.specs.Values.{to_text}
 use Rattle.js_image.specs.declared.outcome.Fault.TheVariants as fault
 use Rattle.js_image.specs.Image.{seen}
 use Rattle.page_image.specs.Image.{number}
-use Rattle.native_image.specs.Image.{beside, image}
-use Rattle.native_image.proofs.Keeping.{keeps_here}
+use Rattle.native_image.specs.Image.{image}
 use Rattle.native_image.proofs.Wants.{object_of, primitive_of}
-use Rattle.native_image.proofs.Working.{at_thrown, ok_at_same}
+use Rattle.native_image.specs.Handed.{parts}
+use Rattle.native_image.proofs.Reading.{writes_memory, writes_same, writes_thrown}
 use Rattle.bunch_trees.proofs.valuing.set_value.Goals as goal
 
-pub give_value-requires-clause-sound : goal.give_value-requires-clause-sound
-give_value-requires-clause-sound c = c.requires.sound
-
-pub returns-then-is_object-clause-native : goal.returns-then-is_object-clause-native
-returns-then-is_object-clause-native c = λ l b sound.
-    let w = c.args.bunch.now.w.index in
-    let p = c.args.page.now in
-    let s = c.args.store.now in
-    let h = beside s p l b in
+pub returns-then-is_object : goal.returns-then-is_object
+returns-then-is_object c =
+    let w = c.args.widget.now.id.index in
+    let p = c.args.shared.now.page in
+    let s = c.args.shared.now.store in
+    let h = parts c.args.shared.now c.args.widget.now in
     let ns = map (number p w) c.args.bunch.now.nodes.now in
     let v = seen w s.cells (value.Ref c.args.bunch.now.cell) in
     let t = seen w s.cells c.args.value.now in
-    at_thrown w h (λ d u. write_method SetValue ns v (t ∷ []) d u) fault.E4 c.args.meter.now sound
+    writes_thrown c.args.shared.now c.args.widget.now c.requires.sound (λ d u. write_method SetValue ns v (t ∷ []) d u) fault.E4 c.args.meter.now
     (λ fs x d. let u = image fs x w h in object_of t u (means.set_value ns (to_text t) v u) (sym (c.is_object.ensures.object w s.cells) ∙ c.if-is_object.true))
 
-pub returns-then-is_object-clause-kept : goal.returns-then-is_object-clause-kept
-returns-then-is_object-clause-kept c = λ l sound. keeps_here c.args.bunch.now.w.index c.args.store.now c.args.page.now l sound.holds
+pub returns-in_err-text : goal.returns-in_err-text
+returns-in_err-text c = writes_memory c.args.shared.now c.args.widget.now c.requires.sound c.args.meter.now c.args.meter.now _ c.from_residual.result c.from_residual.ensures.0
 
-pub returns-in_err-text-clause-kept : goal.returns-in_err-text-clause-kept
-returns-in_err-text-clause-kept c = λ l sound. keeps_here c.args.bunch.now.w.index c.args.store.now c.args.page.now l sound.holds
-
-pub returns-clause-native : goal.returns-clause-native
-returns-clause-native c = λ l b sound.
-    let w = c.args.bunch.now.w.index in
-    let p = c.args.page.now in
-    let s = c.args.store.now in
-    let h = beside s p l b in
+pub returns : goal.returns
+returns c =
+    let w = c.args.widget.now.id.index in
+    let p = c.args.shared.now.page in
+    let s = c.args.shared.now.store in
+    let h = parts c.args.shared.now c.args.widget.now in
     let ns = map (number p w) c.args.bunch.now.nodes.now in
     let v = seen w s.cells (value.Ref c.args.bunch.now.cell) in
     let t = seen w s.cells c.args.value.now in
-    ok_at_same w h (beside c.give_value.new.store c.give_value.new.page l b) (λ d u. write_method SetValue ns v (t ∷ []) d u) (λ d u. means.set_value ns c.in_ok-text.text v u) c.give_value.result c.args.meter.now c.give_value.new.meter
+    writes_same c.args.shared.now c.give_value.new.shared c.args.widget.now c.args.widget.now c.args.meter.now c.give_value.new.meter (λ d u. write_method SetValue ns v (t ∷ []) d u) (λ d u. means.set_value ns c.in_ok-text.text v u) c.give_value.result
     (λ fs x d.
     let u = image fs x w h in
     primitive_of t u (means.set_value ns (to_text t) v u) (sym (c.is_object.ensures.object w s.cells) ∙ c.if-is_object.false)
     ∙ ap (λ k. means.set_value ns k v u) (sym (c.in_ok-text.ensures w s.cells)))
-    (c.give_value.ensures.native l b sound)
-
-pub returns-clause-kept : goal.returns-clause-kept
-returns-clause-kept c = c.give_value.ensures.kept
+    c.give_value.ensures

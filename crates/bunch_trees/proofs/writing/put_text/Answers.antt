@@ -8,6 +8,7 @@ use Rattle.native_image.specs.Grown.{IsGrown}
 use Rattle.native_image.proofs.Keeping.{keeps_paged, keeps_then, sound_page}
 use Rattle.bunch_trees.proofs.Numbered.{one_own}
 use Rattle.bunch_trees.proofs.Texts.{text_comes}
+use Rattle.native_image.specs.Handed.{state}
 use Rattle.bunch_trees.proofs.writing.put_text.Goals as goal
 
 pub put_under-requires-clause-home : goal.put_under-requires-clause-home

@@ -17,12 +17,12 @@ pub run_turn-came-requires-clause-turn : goal.run_turn-came-requires-clause-turn
 run_turn-came-requires-clause-turn c =
     let h = c.args.shared.now in
     let l = c.args.life.now in
-    let fine = subst (λ (o : Option Turn). FineLife h l.widget.number (record l { turn = o })) c.in-Some.is c.requires.fine in
+    let fine = subst (λ (o : Option Turn). FineLife h l.widget.id.index (record l { turn = o })) c.in-Some.is c.requires.fine in
     record { doing = fine.turn.doing; levels = fine.turn.levels }
 
 pub returns-in_default-came-clause-kept : goal.returns-in_default-came-clause-kept
 returns-in_default-came-clause-kept c =
-    keeps_ran c.args.shared.now c.run_turn-came.new.shared c.args.life.now (record c.args.life.now { widget = c.run_turn-came.new.widget; turn = c.drop_turn.new.place }) c.run_turn-came.ensures.kept c.run_turn-came.ensures.number c.run_turn-came.ensures.codes refl refl
+    keeps_ran c.args.shared.now c.run_turn-came.new.shared c.args.life.now (record c.args.life.now { widget = c.run_turn-came.new.widget; turn = c.drop_turn.new.place }) c.run_turn-came.ensures.kept.turn c.run_turn-came.ensures.kept.number c.run_turn-came.ensures.kept.codes refl refl
 
 pub overflow_sub-life : goal.overflow_sub-life
 overflow_sub-life c =
@@ -32,9 +32,9 @@ overflow_sub-life c =
     let u = c.run_turn-came.new.widget in
     let t = c.in-Some.turn in
     let s = c.run_turn-came.new.turn in
-    let fine = subst (λ (o : Option Turn). FineLife h l.widget.number (record l { turn = o })) c.in-Some.is c.requires.fine in
+    let fine = subst (λ (o : Option Turn). FineLife h l.widget.id.index (record l { turn = o })) c.in-Some.is c.requires.fine in
     let sound = ok_on _ c.run_turn-came.result c.in-Ok.ran c.in-Ok.is c.run_turn-came.ensures.sound in
-    let f = fixed (own_of h l.widget.number (record l { turn = Some t })) in
+    let f = fixed (own_of h l.widget.id.index (record l { turn = Some t })) in
     let ran : RanTo c.args.units h m l.widget u t s f (outside l) c.in-Ok.ran = ok_of (λ r. (f : Fixed) (x : Outside) → RanTo c.args.units h m l.widget u t s f x r) c.run_turn-came.result c.in-Ok.ran c.in-Ok.is c.run_turn-came.ensures.ran f (outside l) in
     let at : IsCutAt c.args.units h m l.widget u t s f (outside l) = subst (RanTo c.args.units h m l.widget u t s f (outside l)) c.in-Cut.is ran in
     omega (arith, at.less, fine.turn.left)
@@ -47,14 +47,14 @@ returns-in-Cut-clause-picked c =
     let u = c.run_turn-came.new.widget in
     let t = c.in-Some.turn in
     let s = c.run_turn-came.new.turn in
-    let fine = subst (λ (o : Option Turn). FineLife h l.widget.number (record l { turn = o })) c.in-Some.is c.requires.fine in
+    let fine = subst (λ (o : Option Turn). FineLife h l.widget.id.index (record l { turn = o })) c.in-Some.is c.requires.fine in
     let sound = ok_on _ c.run_turn-came.result c.in-Ok.ran c.in-Ok.is c.run_turn-came.ensures.sound in
-    let f = fixed (own_of h l.widget.number (record l { turn = Some t })) in
+    let f = fixed (own_of h l.widget.id.index (record l { turn = Some t })) in
     let ran : RanTo c.args.units h m l.widget u t s f (outside l) c.in-Ok.ran = ok_of (λ r. (f : Fixed) (x : Outside) → RanTo c.args.units h m l.widget u t s f x r) c.run_turn-came.result c.in-Ok.ran c.in-Ok.is c.run_turn-came.ensures.ran f (outside l) in
-    let held : FineRan m u.number s c.in-Ok.ran = ok_of (FineRan m u.number s) c.run_turn-came.result c.in-Ok.ran c.in-Ok.is c.run_turn-came.ensures.fine in
+    let held : FineRan m u.id.index s c.in-Ok.ran = ok_of (FineRan m u.id.index s) c.run_turn-came.result c.in-Ok.ran c.in-Ok.is c.run_turn-came.ensures.fine in
     let at : IsCutAt c.args.units h m l.widget u t s f (outside l) = subst (RanTo c.args.units h m l.widget u t s f (outside l)) c.in-Cut.is ran in
-    subst (λ (o : Option Turn). PicksLife h m l.widget.number c.args.units (picked.Unfinished (l.records.spent + c.from.result)) (record l { turn = o }) (record l { widget = u; turn = Some s })) (sym c.in-Some.is)
-    (cut_picks h m l t u c.args.units c.requires.units c.run_turn-came.ensures.kept c.run_turn-came.ensures.number c.run_turn-came.ensures.codes sound fine s at (subst (FineRan m u.number s) c.in-Cut.is held) (l.records.spent + c.from.result) (omega (arith, c.from.ensures)))
+    subst (λ (o : Option Turn). PicksLife h m l.widget.id.index c.args.units (picked.Unfinished (l.records.spent + c.from.result)) (record l { turn = o }) (record l { widget = u; turn = Some s })) (sym c.in-Some.is)
+    (cut_picks h m l t u c.args.units c.requires.units c.run_turn-came.ensures.kept.turn c.run_turn-came.ensures.kept.number c.run_turn-came.ensures.kept.codes sound fine s at (subst (FineRan m u.id.index s) c.in-Cut.is held) (l.records.spent + c.from.result) (omega (arith, c.from.ensures)))
 
 pub returns-in-Cut-clause-kept : goal.returns-in-Cut-clause-kept
 returns-in-Cut-clause-kept c =
@@ -64,7 +64,7 @@ returns-in-Cut-clause-kept c =
     let u = c.run_turn-came.new.widget in
     let t = c.in-Some.turn in
     let s = c.run_turn-came.new.turn in
-    keeps_ran h m l (record l { widget = u; turn = Some s }) c.run_turn-came.ensures.kept c.run_turn-came.ensures.number c.run_turn-came.ensures.codes refl refl
+    keeps_ran h m l (record l { widget = u; turn = Some s }) c.run_turn-came.ensures.kept.turn c.run_turn-came.ensures.kept.number c.run_turn-came.ensures.kept.codes refl refl
 
 pub close-requires-clause-left : goal.close-requires-clause-left
 close-requires-clause-left c =
@@ -74,9 +74,9 @@ close-requires-clause-left c =
     let u = c.run_turn-came.new.widget in
     let t = c.in-Some.turn in
     let s = c.run_turn-came.new.turn in
-    let fine = subst (λ (o : Option Turn). FineLife h l.widget.number (record l { turn = o })) c.in-Some.is c.requires.fine in
+    let fine = subst (λ (o : Option Turn). FineLife h l.widget.id.index (record l { turn = o })) c.in-Some.is c.requires.fine in
     let sound = ok_on _ c.run_turn-came.result c.in-Ok.ran c.in-Ok.is c.run_turn-came.ensures.sound in
-    let f = fixed (own_of h l.widget.number (record l { turn = Some t })) in
+    let f = fixed (own_of h l.widget.id.index (record l { turn = Some t })) in
     let ran : RanTo c.args.units h m l.widget u t s f (outside l) c.in-Ok.ran = ok_of (λ r. (f : Fixed) (x : Outside) → RanTo c.args.units h m l.widget u t s f x r) c.run_turn-came.result c.in-Ok.ran c.in-Ok.is c.run_turn-came.ensures.ran f (outside l) in
     let at : IsEndedAt c.args.units h m l.widget u t s f (outside l) c.in-Ended.how c.in-Ended.left = subst (RanTo c.args.units h m l.widget u t s f (outside l)) c.in-Ended.is ran in
     let a = record l { turn = c.drop_turn-in-Ended.new.place } in
@@ -90,13 +90,13 @@ close-requires-clause-fine c =
     let u = c.run_turn-came.new.widget in
     let t = c.in-Some.turn in
     let s = c.run_turn-came.new.turn in
-    let fine = subst (λ (o : Option Turn). FineLife h l.widget.number (record l { turn = o })) c.in-Some.is c.requires.fine in
+    let fine = subst (λ (o : Option Turn). FineLife h l.widget.id.index (record l { turn = o })) c.in-Some.is c.requires.fine in
     let sound = ok_on _ c.run_turn-came.result c.in-Ok.ran c.in-Ok.is c.run_turn-came.ensures.sound in
-    let f = fixed (own_of h l.widget.number (record l { turn = Some t })) in
+    let f = fixed (own_of h l.widget.id.index (record l { turn = Some t })) in
     let ran : RanTo c.args.units h m l.widget u t s f (outside l) c.in-Ok.ran = ok_of (λ r. (f : Fixed) (x : Outside) → RanTo c.args.units h m l.widget u t s f x r) c.run_turn-came.result c.in-Ok.ran c.in-Ok.is c.run_turn-came.ensures.ran f (outside l) in
     let at : IsEndedAt c.args.units h m l.widget u t s f (outside l) c.in-Ended.how c.in-Ended.left = subst (RanTo c.args.units h m l.widget u t s f (outside l)) c.in-Ended.is ran in
     let a = record l { turn = c.drop_turn-in-Ended.new.place } in
-    fine_spent h m a t u c.args.units c.requires.units c.run_turn-came.ensures.kept c.run_turn-came.ensures.number c.run_turn-came.ensures.codes sound fine s c.in-Ended.how c.in-Ended.left at c.drop_turn-in-Ended.ensures
+    fine_spent h m a t u c.args.units c.requires.units c.run_turn-came.ensures.kept.turn c.run_turn-came.ensures.kept.number c.run_turn-came.ensures.kept.codes sound fine s c.in-Ended.how c.in-Ended.left at c.drop_turn-in-Ended.ensures
 
 pub close-requires-clause-held : goal.close-requires-clause-held
 close-requires-clause-held c =
@@ -106,8 +106,8 @@ close-requires-clause-held c =
     let u = c.run_turn-came.new.widget in
     let t = c.in-Some.turn in
     let s = c.run_turn-came.new.turn in
-    let held : FineRan m u.number s c.in-Ok.ran = ok_of (FineRan m u.number s) c.run_turn-came.result c.in-Ok.ran c.in-Ok.is c.run_turn-came.ensures.fine in
-    subst (FineRan m u.number s) c.in-Ended.is held
+    let held : FineRan m u.id.index s c.in-Ok.ran = ok_of (FineRan m u.id.index s) c.run_turn-came.result c.in-Ok.ran c.in-Ok.is c.run_turn-came.ensures.fine in
+    subst (FineRan m u.id.index s) c.in-Ended.is held
 
 pub returns-in_err-close-in-Ended-clause-kept : goal.returns-in_err-close-in-Ended-clause-kept
 returns-in_err-close-in-Ended-clause-kept c =
@@ -118,11 +118,11 @@ returns-in_err-close-in-Ended-clause-kept c =
     let t = c.in-Some.turn in
     let s = c.run_turn-came.new.turn in
     let sound = ok_on _ c.run_turn-came.result c.in-Ok.ran c.in-Ok.is c.run_turn-came.ensures.sound in
-    let f = fixed (own_of h l.widget.number (record l { turn = Some t })) in
+    let f = fixed (own_of h l.widget.id.index (record l { turn = Some t })) in
     let ran : RanTo c.args.units h m l.widget u t s f (outside l) c.in-Ok.ran = ok_of (λ r. (f : Fixed) (x : Outside) → RanTo c.args.units h m l.widget u t s f x r) c.run_turn-came.result c.in-Ok.ran c.in-Ok.is c.run_turn-came.ensures.ran f (outside l) in
     let at : IsEndedAt c.args.units h m l.widget u t s f (outside l) c.in-Ended.how c.in-Ended.left = subst (RanTo c.args.units h m l.widget u t s f (outside l)) c.in-Ended.is ran in
     let a = record l { turn = c.drop_turn-in-Ended.new.place } in
-    keeps_turn l.widget.number h c.close.new.shared l a c.close.new.life refl refl refl (keeps_close h m a t u c.args.units c.requires.units c.run_turn-came.ensures.kept c.run_turn-came.ensures.number c.run_turn-came.ensures.codes sound c.close.new.shared c.close.new.life c.close.ensures.kept)
+    keeps_turn l.widget.id.index h c.close.new.shared l a c.close.new.life refl refl refl (keeps_close h m a t u c.args.units c.requires.units c.run_turn-came.ensures.kept.turn c.run_turn-came.ensures.kept.number c.run_turn-came.ensures.kept.codes sound c.close.new.shared c.close.new.life c.close.ensures.kept)
 
 pub returns-in_ok-close-in-Ended-clause-picked : goal.returns-in_ok-close-in-Ended-clause-picked
 returns-in_ok-close-in-Ended-clause-picked c =
@@ -132,14 +132,14 @@ returns-in_ok-close-in-Ended-clause-picked c =
     let u = c.run_turn-came.new.widget in
     let t = c.in-Some.turn in
     let s = c.run_turn-came.new.turn in
-    let fine = subst (λ (o : Option Turn). FineLife h l.widget.number (record l { turn = o })) c.in-Some.is c.requires.fine in
+    let fine = subst (λ (o : Option Turn). FineLife h l.widget.id.index (record l { turn = o })) c.in-Some.is c.requires.fine in
     let sound = ok_on _ c.run_turn-came.result c.in-Ok.ran c.in-Ok.is c.run_turn-came.ensures.sound in
-    let f = fixed (own_of h l.widget.number (record l { turn = Some t })) in
+    let f = fixed (own_of h l.widget.id.index (record l { turn = Some t })) in
     let ran : RanTo c.args.units h m l.widget u t s f (outside l) c.in-Ok.ran = ok_of (λ r. (f : Fixed) (x : Outside) → RanTo c.args.units h m l.widget u t s f x r) c.run_turn-came.result c.in-Ok.ran c.in-Ok.is c.run_turn-came.ensures.ran f (outside l) in
     let at : IsEndedAt c.args.units h m l.widget u t s f (outside l) c.in-Ended.how c.in-Ended.left = subst (RanTo c.args.units h m l.widget u t s f (outside l)) c.in-Ended.is ran in
     let a = record l { turn = c.drop_turn-in-Ended.new.place } in
-    subst (λ (o : Option Turn). PicksLife h c.close.new.shared l.widget.number c.args.units _ (record l { turn = o }) c.close.new.life) (sym c.in-Some.is)
-    (over_picks h m a t u c.args.units c.requires.units c.run_turn-came.ensures.kept c.run_turn-came.ensures.number c.run_turn-came.ensures.codes sound fine s c.in-Ended.how c.in-Ended.left at c.drop_turn-in-Ended.ensures
+    subst (λ (o : Option Turn). PicksLife h c.close.new.shared l.widget.id.index c.args.units _ (record l { turn = o }) c.close.new.life) (sym c.in-Some.is)
+    (over_picks h m a t u c.args.units c.requires.units c.run_turn-came.ensures.kept.turn c.run_turn-came.ensures.kept.number c.run_turn-came.ensures.kept.codes sound fine s c.in-Ended.how c.in-Ended.left at c.drop_turn-in-Ended.ensures
     c.close.new.shared c.close.new.life c.close.ensures.kept c.in_ok-close-in-Ended.ensures.fine c.close.ensures.rest c.close.ensures.queue c.in_ok-close-in-Ended.ensures.own)
 
 pub returns-in_ok-close-in-Ended-clause-kept : goal.returns-in_ok-close-in-Ended-clause-kept
@@ -151,8 +151,8 @@ returns-in_ok-close-in-Ended-clause-kept c =
     let t = c.in-Some.turn in
     let s = c.run_turn-came.new.turn in
     let sound = ok_on _ c.run_turn-came.result c.in-Ok.ran c.in-Ok.is c.run_turn-came.ensures.sound in
-    let f = fixed (own_of h l.widget.number (record l { turn = Some t })) in
+    let f = fixed (own_of h l.widget.id.index (record l { turn = Some t })) in
     let ran : RanTo c.args.units h m l.widget u t s f (outside l) c.in-Ok.ran = ok_of (λ r. (f : Fixed) (x : Outside) → RanTo c.args.units h m l.widget u t s f x r) c.run_turn-came.result c.in-Ok.ran c.in-Ok.is c.run_turn-came.ensures.ran f (outside l) in
     let at : IsEndedAt c.args.units h m l.widget u t s f (outside l) c.in-Ended.how c.in-Ended.left = subst (RanTo c.args.units h m l.widget u t s f (outside l)) c.in-Ended.is ran in
     let a = record l { turn = c.drop_turn-in-Ended.new.place } in
-    keeps_turn l.widget.number h c.close.new.shared l a c.close.new.life refl refl refl (keeps_close h m a t u c.args.units c.requires.units c.run_turn-came.ensures.kept c.run_turn-came.ensures.number c.run_turn-came.ensures.codes sound c.close.new.shared c.close.new.life c.close.ensures.kept)
+    keeps_turn l.widget.id.index h c.close.new.shared l a c.close.new.life refl refl refl (keeps_close h m a t u c.args.units c.requires.units c.run_turn-came.ensures.kept.turn c.run_turn-came.ensures.kept.number c.run_turn-came.ensures.kept.codes sound c.close.new.shared c.close.new.life c.close.ensures.kept)

@@ -15,7 +15,7 @@ returns-then-begun-clause-picked c =
     let a = c.args.life.now in
     let b = c.begin_turn.new.life in
     let l = c.go_on-then-begun.new.life in
-    let w = a.widget.number in
+    let w = a.widget.id.index in
     let begun = subst (λ x. BeginsTurn h m w x a b) c.if-begun.true c.in_ok-begun.ensures.begun in
     IfOk-weaker c.go_on-then-begun.result _ _
     (λ r p. picked_after h m w c.args.units a b k r l begun (subst (λ i. PicksLife m k i c.args.units r b l) c.begin_turn.ensures.kept.number p))
@@ -28,4 +28,4 @@ returns-then-begun-clause-kept c =
     let a = c.args.life.now in
     let b = c.begin_turn.new.life in
     let l = c.go_on-then-begun.new.life in
-    keeps_both a.widget.number c.args.shared.now m k a b l c.begin_turn.ensures.kept (subst (λ i. KeepsLife i m k b l) c.begin_turn.ensures.kept.number c.go_on-then-begun.ensures.kept)
+    keeps_both a.widget.id.index c.args.shared.now m k a b l c.begin_turn.ensures.kept (subst (λ i. KeepsLife i m k b l) c.begin_turn.ensures.kept.number c.go_on-then-begun.ensures.kept)

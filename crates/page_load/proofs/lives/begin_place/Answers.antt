@@ -1,6 +1,6 @@
 use Rattle.std.proofs.Common.{arith, refl}
 use Rattle.js_names.specs.Code.{trees_of}
-use Rattle.turn_returns.specs.declared.turn.Shared.{Shared}
+use Rattle.native_image.specs.declared.handed.Shared.{Shared}
 use Rattle.page_load.proofs.Begun.{begun_is, keeps_begun, raws_kept, unused_behind}
 use Rattle.page_load.proofs.lives.begin_place.Goals as goal
 

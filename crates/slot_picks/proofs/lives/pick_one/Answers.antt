@@ -16,7 +16,7 @@ pick_lent-requires-clause-widget c =
     let ls = c.args.lives.now.places.items in
     let a = c.index_mut.result.now in
     let at : slice_get ls c.args.v ≡ Some a = slice_get_read ls (length ls) c.args.v a refl c.requires.there c.index_mut.ensures.value in
-    let number : a.life.widget.number ≡ c.args.v = number_here h c.args.v ls a at (c.requires.accepted a at) c.requires.fine.fine in
+    let number : a.life.widget.id.index ≡ c.args.v = number_here h c.args.v ls a at (c.requires.accepted a at) c.requires.fine.fine in
     omega (arith, number, c.requires.there, c.requires.fine.places)
 
 pub pick_lent-requires-clause-fine : goal.pick_lent-requires-clause-fine
@@ -91,8 +91,8 @@ returns-clause-stays c =
     let a = c.index_mut.result.now in
     let b = c.pick_lent.new.place in
     let at : slice_get ls c.args.v ≡ Some a = slice_get_read ls (length ls) c.args.v a refl c.requires.there c.index_mut.ensures.value in
-    let number : a.life.widget.number ≡ c.args.v = number_here h c.args.v ls a at (c.requires.accepted a at) c.requires.fine.fine in
+    let number : a.life.widget.id.index ≡ c.args.v = number_here h c.args.v ls a at (c.requires.accepted a at) c.requires.fine.fine in
     keeps_set c.args.lives.now _ c.args.v a b at refl (omega (arith, c.requires.fine.places)) (c.requires.accepted a at) c.pick_lent.ensures.root c.pick_lent.ensures.told
     (subst (λ i. KeepsLife i (lent h a) (lent m b) a.life b.life) number c.pick_lent.ensures.kept) c.pick_lent.ensures.rest
     (subst (λ i. IfSome b.life.turn (FineTurn (trees_of b.codes.items) i m.store m.page b.life.grant)) number
-    (turn_after (lent h a) (lent m b) a.life.widget.number c.args.k a.life b.life c.pick_lent.result c.pick_lent.ensures.picked c.pick_lent.ensures.none))
+    (turn_after (lent h a) (lent m b) a.life.widget.id.index c.args.k a.life b.life c.pick_lent.result c.pick_lent.ensures.picked c.pick_lent.ensures.none))

@@ -11,14 +11,14 @@ use Rattle.turn_dispatch.proofs.hearing.announce.Goals as goal
 
 pub returns-clause-plan : goal.returns-clause-plan
 returns-clause-plan c = λ fs x l b sound.
-    hear_calls c.args.w c.requires.widget c.args.store.now c.make_event.new.store c.args.page.now c.args.dispatch c.args.at.0 c.args.at.1 c.requires.some
+    hear_calls c.args.w.index c.args.w.small c.args.store.now c.make_event.new.store c.args.page.now c.args.dispatch c.args.at.0 c.args.at.1 c.requires.some
     c.make_event.ensures.kept.grows c.requires.dispatch c.requires.own c.requires.functions c.in_ok-event.event c.in_ok-event.ensures.held
     (λ gs r k. c.requires.paid gs r k) c.in_ok-event.ensures.born c.in_ok-event.ensures.next fs x l b sound
-    ∙ ap (λ (h : Hearing). Do (plan.Hear (hearing_of c.args.w c.make_event.new.store.cells c.args.page.now h)) (with_dispatch (image fs x c.args.w (beside c.make_event.new.store c.args.page.now l b))) Ret)
+    ∙ ap (λ (h : Hearing). Do (plan.Hear (hearing_of c.args.w.index c.make_event.new.store.cells c.args.page.now h)) (with_dispatch (image fs x c.args.w.index (beside c.make_event.new.store c.args.page.now l b))) Ret)
     (sym c.in_ok-new.ensures.ok)
 
 pub returns-clause-fine : goal.returns-clause-fine
 returns-clause-fine c =
-    subst (λ (h : Hearing). FineHearing c.args.w c.make_event.new.store.cells c.args.page.now h) (sym c.in_ok-new.ensures.ok)
-    (heard_fine c.args.w c.requires.widget c.args.store.now c.make_event.new.store c.args.page.now c.args.dispatch c.args.at.0 c.args.at.1 c.requires.some
+    subst (λ (h : Hearing). FineHearing c.args.w.index c.make_event.new.store.cells c.args.page.now h) (sym c.in_ok-new.ensures.ok)
+    (heard_fine c.args.w.index c.args.w.small c.args.store.now c.make_event.new.store c.args.page.now c.args.dispatch c.args.at.0 c.args.at.1 c.requires.some
     c.make_event.ensures.kept.grows c.requires.dispatch c.requires.own c.requires.functions c.in_ok-event.event c.in_ok-event.ensures.held)

@@ -12,7 +12,7 @@ use Rattle.turn_dispatch.proofs.opening.open_script.Goals as goal
 
 pub returns-in_ok-call_function-in-Cell-clause-plan : goal.returns-in_ok-call_function-in-Cell-clause-plan
 returns-in_ok-call_function-in-Cell-clause-plan c = λ fs p r levels.
-    let w = c.args.w in
+    let w = c.args.w.index in
     let old = c.args.store.now in
     let new = c.make.new.store in
     let k = levels_rest fs w new.cells p levels in
@@ -23,7 +23,7 @@ returns-in_ok-call_function-in-Cell-clause-plan c = λ fs p r levels.
 
 pub returns-in_ok-call_function-in-Cell-clause-fine : goal.returns-in_ok-call_function-in-Cell-clause-fine
 returns-in_ok-call_function-in-Cell-clause-fine c = λ fs p.
-    let w = c.args.w in
+    let w = c.args.w.index in
     let old = c.args.store.now in
     let new = c.make.new.store in
     c.in_ok-call_function-in-Cell.ensures.fine fs new p (subst (λ (m : Made). IsFineMade w new.cells m) c.in-Cell.is c.in_ok-func.ensures.fine)
@@ -31,7 +31,7 @@ returns-in_ok-call_function-in-Cell-clause-fine c = λ fs p.
 
 pub returns-in-Stop-clause-plan : goal.returns-in-Stop-clause-plan
 returns-in-Stop-clause-plan c = λ fs p r levels.
-    let w = c.args.w in
+    let w = c.args.w.index in
     let new = c.make.new.store in
     c.in_ok-func.ensures.plan fs r (λ v t. Do (plan.Call v None (all_seen w c.args.store.now.cells c.args.args.now) 0) t (levels_rest fs w new.cells p levels))
     ∙ ap (λ (m : Made). made_plan w new.cells m (λ v t. Do (plan.Call v None (all_seen w c.args.store.now.cells c.args.args.now) 0) t (levels_rest fs w new.cells p levels)) (image fs r w new)) c.in-Stop.is

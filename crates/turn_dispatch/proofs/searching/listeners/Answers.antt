@@ -9,15 +9,15 @@ use Rattle.turn_dispatch.proofs.Listening.{all_own}
 use Rattle.turn_dispatch.proofs.searching.listeners.Goals as goal
 
 pub nearest-requires : goal.nearest-requires
-nearest-requires c = is_one c.args.page.now c.args.w c.args.node c.requires.own
+nearest-requires c = is_one c.args.page.now c.args.w.index c.args.node c.requires.own
 
 pub returns-clause-image : goal.returns-clause-image
 returns-clause-image c =
     let p = c.args.page.now in
-    let w = c.args.w in
+    let w = c.args.w.index in
     let l = c.args.around.now in
     if_ok_then c.nearest.result (λ found. found_of found ≡ nearest most (nodes p) c.root_of.result l c.args.node c.args.kind.now) _
-    (λ found e. λ g s shows. ap (own_found (number p w) g) e ∙ sym (found_image p w c.root_of.result g l s c.requires.widget c.root_of.ensures shows c.args.node c.args.kind.now c.requires.own))
+    (λ found e. λ g s shows. ap (own_found (number p w) g) e ∙ sym (found_image p w c.root_of.result g l s c.args.w.small c.root_of.ensures shows c.args.node c.args.kind.now c.requires.own))
     c.nearest.ensures
 
 pub returns-clause-own : goal.returns-clause-own
@@ -25,5 +25,5 @@ returns-clause-own c =
     let p = c.args.page.now in
     let l = c.args.around.now in
     if_ok_then c.nearest.result (λ found. found_of found ≡ nearest most (nodes p) c.root_of.result l c.args.node c.args.kind.now) _
-    (λ found e. λ s holds. all_own most (nodes p) c.root_of.result c.args.node c.args.kind.now c.args.w s p l holds found e)
+    (λ found e. λ s holds. all_own most (nodes p) c.root_of.result c.args.node c.args.kind.now c.args.w.index s p l holds found e)
     c.nearest.ensures

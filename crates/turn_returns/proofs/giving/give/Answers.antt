@@ -20,7 +20,7 @@ levels-init c = record {
   held = c.requires.how;
   fine = λ fs h. h;
   near = omega arith;
-  kept = sound_same c.args.site.now.widget c.args.site.now.page.now c.args.store.now;
+  kept = sound_same c.args.site.now.id.index c.args.site.now.page.now c.args.store.now;
 }
 
 pub take-requires-clause-sound : goal.take-requires-clause-sound
@@ -28,14 +28,14 @@ take-requires-clause-sound c = c.levels.invariant.kept.sound c.args.site.now.aro
 
 pub take-requires-clause-level : goal.take-requires-clause-level
 take-requires-clause-level c =
-    let w = c.args.site.now.widget in
+    let w = c.args.site.now.id.index in
     let p = c.args.site.now.page.now in
     let g = c.requires.levels in
     (g.0, (fine_pop g.0 w c.levels.store.cells p c.pop.new.self.items c.in-Some.level (subst (FineLevels g.0 w c.levels.store.cells p) c.in-Some.ensures.items (c.levels.invariant.fine g.0 g.1))).1)
 
 pub levels-smaller : goal.levels-smaller
 levels-smaller c =
-    let w = c.args.site.now.widget in
+    let w = c.args.site.now.id.index in
     let p = c.args.site.now.page.now in
     let l = c.args.site.now.around.now in
     let mid = c.levels.store in
@@ -48,7 +48,7 @@ levels-smaller c =
 
 pub levels-preserved : goal.levels-preserved
 levels-preserved c =
-    let w = c.args.site.now.widget in
+    let w = c.args.site.now.id.index in
     let p = c.args.site.now.page.now in
     let l = c.args.site.now.around.now in
     let mid = c.levels.store in
@@ -71,7 +71,7 @@ levels-preserved c =
 
 pub returns-in-Stops-clause-plan : goal.returns-in-Stops-clause-plan
 returns-in-Stops-clause-plan c = λ fs x fine.
-    let w = c.args.site.now.widget in
+    let w = c.args.site.now.id.index in
     let p = c.args.site.now.page.now in
     let l = c.args.site.now.around.now in
     let mid = c.levels.store in
@@ -86,7 +86,7 @@ returns-in-Stops-clause-plan c = λ fs x fine.
 
 pub returns-in-Runs-clause-plan : goal.returns-in-Runs-clause-plan
 returns-in-Runs-clause-plan c = λ fs x fine.
-    let w = c.args.site.now.widget in
+    let w = c.args.site.now.id.index in
     let p = c.args.site.now.page.now in
     let l = c.args.site.now.around.now in
     let mid = c.levels.store in
@@ -101,7 +101,7 @@ returns-in-Runs-clause-plan c = λ fs x fine.
 
 pub returns-in-Hears-clause-plan : goal.returns-in-Hears-clause-plan
 returns-in-Hears-clause-plan c = λ fs x fine.
-    let w = c.args.site.now.widget in
+    let w = c.args.site.now.id.index in
     let p = c.args.site.now.page.now in
     let l = c.args.site.now.around.now in
     let mid = c.levels.store in
@@ -118,7 +118,7 @@ returns-in-Hears-clause-plan c = λ fs x fine.
 
 pub returns-in-Stops-clause-fine : goal.returns-in-Stops-clause-fine
 returns-in-Stops-clause-fine c = λ fs fine.
-    let w = c.args.site.now.widget in
+    let w = c.args.site.now.id.index in
     let p = c.args.site.now.page.now in
     let l = c.args.site.now.around.now in
     let mid = c.levels.store in
@@ -132,7 +132,7 @@ returns-in-Stops-clause-fine c = λ fs fine.
 
 pub returns-in-Stops-clause-near : goal.returns-in-Stops-clause-near
 returns-in-Stops-clause-near c =
-    let w = c.args.site.now.widget in
+    let w = c.args.site.now.id.index in
     let p = c.args.site.now.page.now in
     let l = c.args.site.now.around.now in
     let mid = c.levels.store in
@@ -145,7 +145,7 @@ returns-in-Stops-clause-near c =
 
 pub returns-in-Runs-clause-fine : goal.returns-in-Runs-clause-fine
 returns-in-Runs-clause-fine c = λ fs fine.
-    let w = c.args.site.now.widget in
+    let w = c.args.site.now.id.index in
     let p = c.args.site.now.page.now in
     let l = c.args.site.now.around.now in
     let mid = c.levels.store in
@@ -159,7 +159,7 @@ returns-in-Runs-clause-fine c = λ fs fine.
 
 pub returns-in-Runs-clause-near : goal.returns-in-Runs-clause-near
 returns-in-Runs-clause-near c =
-    let w = c.args.site.now.widget in
+    let w = c.args.site.now.id.index in
     let p = c.args.site.now.page.now in
     let l = c.args.site.now.around.now in
     let mid = c.levels.store in
@@ -172,7 +172,7 @@ returns-in-Runs-clause-near c =
 
 pub returns-in-Hears-clause-fine : goal.returns-in-Hears-clause-fine
 returns-in-Hears-clause-fine c = λ fs fine.
-    let w = c.args.site.now.widget in
+    let w = c.args.site.now.id.index in
     let p = c.args.site.now.page.now in
     let l = c.args.site.now.around.now in
     let mid = c.levels.store in
@@ -186,7 +186,7 @@ returns-in-Hears-clause-fine c = λ fs fine.
 
 pub returns-in-Hears-clause-near : goal.returns-in-Hears-clause-near
 returns-in-Hears-clause-near c =
-    let w = c.args.site.now.widget in
+    let w = c.args.site.now.id.index in
     let p = c.args.site.now.page.now in
     let l = c.args.site.now.around.now in
     let mid = c.levels.store in
@@ -201,28 +201,28 @@ pub returns-in_err-next-clause-sound : goal.returns-in_err-next-clause-sound
 returns-in_err-next-clause-sound c = λ m h. c.take.ensures.kept.sound m (c.levels.invariant.kept.sound m h)
 
 pub returns-in_err-next-clause-kept : goal.returns-in_err-next-clause-kept
-returns-in_err-next-clause-kept c = (sound_then c.args.site.now.widget c.args.site.now.page.now c.args.store.now c.levels.store c.take.new.store c.levels.invariant.kept c.take.ensures.kept).kept
+returns-in_err-next-clause-kept c = (sound_then c.args.site.now.id.index c.args.site.now.page.now c.args.store.now c.levels.store c.take.new.store c.levels.invariant.kept c.take.ensures.kept).kept
 
 pub returns-in-Stops-clause-sound : goal.returns-in-Stops-clause-sound
 returns-in-Stops-clause-sound c = λ m h. c.take.ensures.kept.sound m (c.levels.invariant.kept.sound m h)
 
 pub returns-in-Stops-clause-kept : goal.returns-in-Stops-clause-kept
-returns-in-Stops-clause-kept c = (sound_then c.args.site.now.widget c.args.site.now.page.now c.args.store.now c.levels.store c.take.new.store c.levels.invariant.kept c.take.ensures.kept).kept
+returns-in-Stops-clause-kept c = (sound_then c.args.site.now.id.index c.args.site.now.page.now c.args.store.now c.levels.store c.take.new.store c.levels.invariant.kept c.take.ensures.kept).kept
 
 pub returns-in-Runs-clause-sound : goal.returns-in-Runs-clause-sound
 returns-in-Runs-clause-sound c = λ m h. c.take.ensures.kept.sound m (c.levels.invariant.kept.sound m h)
 
 pub returns-in-Runs-clause-kept : goal.returns-in-Runs-clause-kept
-returns-in-Runs-clause-kept c = (sound_then c.args.site.now.widget c.args.site.now.page.now c.args.store.now c.levels.store c.take.new.store c.levels.invariant.kept c.take.ensures.kept).kept
+returns-in-Runs-clause-kept c = (sound_then c.args.site.now.id.index c.args.site.now.page.now c.args.store.now c.levels.store c.take.new.store c.levels.invariant.kept c.take.ensures.kept).kept
 
 pub returns-in_err-push-in-Hears-clause-sound : goal.returns-in_err-push-in-Hears-clause-sound
 returns-in_err-push-in-Hears-clause-sound c = λ m h. c.take.ensures.kept.sound m (c.levels.invariant.kept.sound m h)
 
 pub returns-in_err-push-in-Hears-clause-kept : goal.returns-in_err-push-in-Hears-clause-kept
-returns-in_err-push-in-Hears-clause-kept c = (sound_then c.args.site.now.widget c.args.site.now.page.now c.args.store.now c.levels.store c.take.new.store c.levels.invariant.kept c.take.ensures.kept).kept
+returns-in_err-push-in-Hears-clause-kept c = (sound_then c.args.site.now.id.index c.args.site.now.page.now c.args.store.now c.levels.store c.take.new.store c.levels.invariant.kept c.take.ensures.kept).kept
 
 pub returns-in-Hears-clause-sound : goal.returns-in-Hears-clause-sound
 returns-in-Hears-clause-sound c = λ m h. c.take.ensures.kept.sound m (c.levels.invariant.kept.sound m h)
 
 pub returns-in-Hears-clause-kept : goal.returns-in-Hears-clause-kept
-returns-in-Hears-clause-kept c = (sound_then c.args.site.now.widget c.args.site.now.page.now c.args.store.now c.levels.store c.take.new.store c.levels.invariant.kept c.take.ensures.kept).kept
+returns-in-Hears-clause-kept c = (sound_then c.args.site.now.id.index c.args.site.now.page.now c.args.store.now c.levels.store c.take.new.store c.levels.invariant.kept c.take.ensures.kept).kept

@@ -12,7 +12,7 @@ use Rattle.turn_returns.proofs.giving.give.Given as goal
 
 abbrev pub invariant-levels : goal.invariant-levels
 invariant-levels l =
-    let w = l.site.widget in
+    let w = l.site.id.index in
     let p = l.site.page.now in
     let a = l.site.around.now in record {
       same : (fs : List Forest) (x : Outside) → FineLevels fs w l.fn.store.cells p l.fn.calls.levels.items

@@ -15,7 +15,7 @@ use Rattle.turn_returns.proofs.giving.take.Goals as goal
 
 pub returns-in-Keeps-clause-taken : goal.returns-in-Keeps-clause-taken
 returns-in-Keeps-clause-taken c =
-    let w = c.args.site.now.widget in
+    let w = c.args.site.now.id.index in
     let p = c.args.site.now.page.now in
     let l = c.args.site.now.around.now in
     let old = c.args.store.now in
@@ -27,17 +27,17 @@ returns-in-Keeps-clause-taken c =
     (λ fs x lev.
     let s = turn_image fs x w old p l ds in
     ap (λ (v : Level). level_taken fs w old.cells p v how s) c.in-Keeps.is
-    ∙ (h.plan fs p (rest w c.requires.widget (outside_of x ds) (beside old p l (bubbled_of ds)))
-    ∙ ap (took_plan fs w new.cells p t) (store_lift w old new p l c.requires.sound.holds (c.keeps.ensures.kept []).grows c.requires.widget fs (outside_of x ds) (bubbled_of ds))))
+    ∙ (h.plan fs p (rest w c.args.site.now.id.small (outside_of x ds) (beside old p l (bubbled_of ds)))
+    ∙ ap (took_plan fs w new.cells p t) (store_lift w old new p l c.requires.sound.holds (c.keeps.ensures.kept []).grows c.args.site.now.id.small fs (outside_of x ds) (bubbled_of ds))))
     (λ fs lev. h.fine fs p) (omega (arith, h.near)) (omega (arith, ap level_weight c.in-Keeps.is)))
     c.keeps.ensures.next
 
 pub returns-in-Keeps-clause-kept : goal.returns-in-Keeps-clause-kept
-returns-in-Keeps-clause-kept c = sound_of c.args.site.now.widget c.args.site.now.page.now c.args.store.now c.keeps.new.store c.keeps.ensures.kept
+returns-in-Keeps-clause-kept c = sound_of c.args.site.now.id.index c.args.site.now.page.now c.args.store.now c.keeps.new.store c.keeps.ensures.kept
 
 pub returns-in-Waits-clause-taken : goal.returns-in-Waits-clause-taken
 returns-in-Waits-clause-taken c =
-    let w = c.args.site.now.widget in
+    let w = c.args.site.now.id.index in
     let p = c.args.site.now.page.now in
     let l = c.args.site.now.around.now in
     let s = c.args.store.now in

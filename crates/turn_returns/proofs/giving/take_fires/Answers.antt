@@ -15,7 +15,7 @@ use Rattle.turn_returns.proofs.giving.take_fires.Goals as goal
 
 pub returns-clause-taken : goal.returns-clause-taken
 returns-clause-taken c =
-    let w = c.args.site.now.widget in
+    let w = c.args.site.now.id.index in
     let p = c.args.site.now.page.now in
     let l = c.args.site.now.around.now in
     let old = c.args.store.now in

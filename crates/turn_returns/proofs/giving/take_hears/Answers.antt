@@ -21,7 +21,7 @@ use Rattle.turn_returns.proofs.giving.take_hears.Goals as goal
 
 pub returns-then-not-is_value-clause-taken : goal.returns-then-not-is_value-clause-taken
 returns-then-not-is_value-clause-taken c =
-    let w = c.args.site.now.widget in
+    let w = c.args.site.now.id.index in
     let p = c.args.site.now.page.now in
     let l = c.args.site.now.around.now in
     let s = c.args.store.now in
@@ -34,7 +34,7 @@ returns-then-not-is_value-clause-taken c =
 
 pub returns-then-next-len-clause-taken : goal.returns-then-next-len-clause-taken
 returns-then-next-len-clause-taken c =
-    let w = c.args.site.now.widget in
+    let w = c.args.site.now.id.index in
     let p = c.args.site.now.page.now in
     let l = c.args.site.now.around.now in
     let s = c.args.store.now in
@@ -48,7 +48,7 @@ returns-then-next-len-clause-taken c =
     taken_back w p l s s c.args.calls.now (record { levels = c.push.new.self; dispatches = c.args.calls.now.dispatches }) (sound_same w p s) (level.Hears c.args.at.0 n) (level.Hears c.args.at.0 (n + 1)) c.args.how (took.Runs t)
     c.in_ok-push.ensures.items
     (λ fs x lev.
-    let r = rest w c.requires.widget (outside_of x ds) (beside s p l (bubbled_of ds)) in
+    let r = rest w c.args.site.now.id.small (outside_of x ds) (beside s p l (bubbled_of ds)) in
     let u = turn_image fs x w s p l ds in
     let called = subst (λ (g : Hearing). remaining fs w s t.value r ≡ Do (plan.Call (Own (get_or (functions_of w s.cells p g) n 0)) None ((hearing_of w s.cells p g).event ∷ []) g.dispatch.depth) u Ret) same
     (c.in_ok-task.ensures.plan fs s p r (subst (FineHearing w s.cells p) (sym same) lev)) in
@@ -58,7 +58,7 @@ returns-then-next-len-clause-taken c =
 
 pub returns-clause-taken : goal.returns-clause-taken
 returns-clause-taken c =
-    let w = c.args.site.now.widget in
+    let w = c.args.site.now.id.index in
     let p = c.args.site.now.page.now in
     let l = c.args.site.now.around.now in
     let s = c.args.store.now in

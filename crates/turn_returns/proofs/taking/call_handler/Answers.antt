@@ -23,7 +23,7 @@ use Rattle.turn_returns.proofs.taking.call_handler.Goals as goal
 
 pub returns-clause-plan : goal.returns-clause-plan
 returns-clause-plan c = λ fs s p r fine.
-    let w = c.args.w in
+    let w = c.args.w.index in
     let h = c.args.hearing.now in
     let img = image fs r w s in
     let func = handler_seen w s.cells p h c.args.next c.index.result.now c.requires c.index.ensures fine in
@@ -34,7 +34,7 @@ returns-clause-plan c = λ fs s p r fine.
 
 pub returns-clause-fine : goal.returns-clause-fine
 returns-clause-fine c = λ fs s p fine.
-    let w = c.args.w in
+    let w = c.args.w.index in
     let held = handler_held w s.cells p c.args.hearing.now c.args.next c.index.result.now c.requires c.index.ensures fine in
     let args : AreFine w s.cells (value.Ref c.args.hearing.now.event ∷ []) = (fine.event, tt) in
     subst (λ (t : Task). FineTask fs w s p t) (sym c.in_ok-new-2.ensures.ok)

@@ -10,7 +10,7 @@ use Rattle.turn_returns.proofs.taking.end_dispatch.Goals as goal
 
 pub returns-then-not-bubbled-clause-next : goal.returns-then-not-bubbled-clause-next
 returns-then-not-bubbled-clause-next c =
-    let w = c.args.site.now.widget in
+    let w = c.args.site.now.id.index in
     let p = c.args.site.now.page.now in record {
       plan = λ fs x b. ap (λ q. bubble_on q (hearing_of w c.args.store.now.cells p c.args.hearing.value) (image fs x w (beside c.args.store.now p c.args.site.now.around.now b))) c.if-not-bubbled.true;
       fine = λ fs. tt;
@@ -19,7 +19,7 @@ returns-then-not-bubbled-clause-next c =
 
 pub returns-clause-next : goal.returns-clause-next
 returns-clause-next c =
-    let w = c.args.site.now.widget in
+    let w = c.args.site.now.id.index in
     let p = c.args.site.now.page.now in
     let l = c.args.site.now.around.now in
     let cells = c.args.store.now.cells in

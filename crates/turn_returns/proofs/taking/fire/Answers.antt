@@ -9,7 +9,7 @@ use Rattle.turn_returns.proofs.taking.fire.Goals as goal
 
 pub search-requires-clause-dispatch : goal.search-requires-clause-dispatch
 search-requires-clause-dispatch c =
-    let w = c.args.site.now.widget in
+    let w = c.args.site.now.id.index in
     let p = c.args.site.now.page.now in
     let ns = c.args.firing.now.nodes.items in record {
       target = subst (λ (n : ℕ). owns p w n ≡ true) (sym c.index-node.ensures) (node_own p w ns c.args.next c.index-node.result.now c.requires.there c.requires.firing.nodes);
@@ -18,14 +18,14 @@ search-requires-clause-dispatch c =
 
 pub search-requires-clause-own : goal.search-requires-clause-own
 search-requires-clause-own c =
-    let w = c.args.site.now.widget in
+    let w = c.args.site.now.id.index in
     let p = c.args.site.now.page.now in
     let ns = c.args.firing.now.nodes.items in
     subst (λ (n : ℕ). owns p w n ≡ true) (sym c.index-node.ensures) (node_own p w ns c.args.next c.index-node.result.now c.requires.there c.requires.firing.nodes)
 
 pub returns-clause-next : goal.returns-clause-next
 returns-clause-next c =
-    let w = c.args.site.now.widget in
+    let w = c.args.site.now.id.index in
     let p = c.args.site.now.page.now in
     let l = c.args.site.now.around.now in
     let f = c.args.firing.now in

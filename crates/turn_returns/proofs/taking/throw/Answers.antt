@@ -7,7 +7,7 @@ use Rattle.js_image.specs.Plans.{IsFineMade, made_plan}
 use Rattle.turn_returns.proofs.taking.throw.Goals as goal
 
 pub returns-in-Cell-clause-next : goal.returns-in-Cell-clause-next
-returns-in-Cell-clause-next c = let w = c.args.w in let new = c.make_fault.new.store in record {
+returns-in-Cell-clause-next c = let w = c.args.w.index in let new = c.make_fault.new.store in record {
   plan = λ fs p r.
       c.in_ok-cell.ensures.plan fs r (λ v t. Ret (meaning.Throw v) t)
       ∙ ap (λ (m : Made). made_plan w new.cells m (λ v t. Ret (meaning.Throw v) t) (image fs r w new)) c.in-Cell.is;
@@ -16,7 +16,7 @@ returns-in-Cell-clause-next c = let w = c.args.w in let new = c.make_fault.new.s
 }
 
 pub returns-in-Stop-clause-next : goal.returns-in-Stop-clause-next
-returns-in-Stop-clause-next c = let w = c.args.w in let new = c.make_fault.new.store in record {
+returns-in-Stop-clause-next c = let w = c.args.w.index in let new = c.make_fault.new.store in record {
   plan = λ fs p r.
       c.in_ok-cell.ensures.plan fs r (λ v t. Ret (meaning.Throw v) t)
       ∙ ap (λ (m : Made). made_plan w new.cells m (λ v t. Ret (meaning.Throw v) t) (image fs r w new)) c.in-Stop.is;

@@ -12,6 +12,6 @@ fire-requires-clause-firing c =
     let v = c.args.widget.now in
     let is = c.in-Call-Fire.is ∙ ap native.Call c.in-Call-Fire.field-0-is in
     record {
-      nodes = nodes_own h.page v.number c.in-Call-Fire.nodes.items (subst (FiresAtOwn v.number (beside h.store h.page v.around None)) is c.requires.fires);
-      last = subst (IsFineOut v.number h.store.cells) is c.requires.out;
+      nodes = nodes_own h.page v.id.index c.in-Call-Fire.nodes.items (subst (FiresAtOwn v.id.index (beside h.store h.page v.around None)) is c.requires.fires);
+      last = subst (IsFineOut v.id.index h.store.cells) is c.requires.out;
     }

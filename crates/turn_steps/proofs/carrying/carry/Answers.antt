@@ -1,7 +1,7 @@
 use Rattle.std.proofs.Common.{◌∙◌, refl, subst, sym}
 use Rattle.js_flow.specs.declared.job.NativeCall.{NativeCall}
 use Rattle.turn_steps.specs.Carrying.{IsAnswered, IsPerformed}
-use Rattle.turn_steps.proofs.Carries.{answered_moves, awaits_mid, frames_mid, keeps_turn, levels_mid, wanting_moves}
+use Rattle.turn_steps.proofs.Carries.{answered_moves, awaits_mid, frames_mid, keeps_native, keeps_turn, levels_mid, wanting_moves}
 use Rattle.turn_steps.proofs.carrying.carry.Goals as goal
 
 pub answer-requires-clause-frames : goal.answer-requires-clause-frames
@@ -13,11 +13,17 @@ answer-requires-clause-awaits c = awaits_mid c.args.shared.now c.perform.new.sha
 pub answer-requires-clause-levels : goal.answer-requires-clause-levels
 answer-requires-clause-levels c = levels_mid c.args.shared.now c.perform.new.shared c.args.widget.now c.perform.new.widget c.perform.ensures.number c.perform.ensures.codes c.perform.ensures.kept c.args.calls.now.levels.items c.requires.levels
 
+pub returns-in_err-out-clause-kept : goal.returns-in_err-out-clause-kept
+returns-in_err-out-clause-kept c = keeps_native c.args.shared.now c.perform.new.shared c.args.widget.now c.perform.new.widget c.perform.ensures.number c.perform.ensures.codes c.perform.ensures.kept
+
+pub returns-then-is_wanting-clause-kept : goal.returns-then-is_wanting-clause-kept
+returns-then-is_wanting-clause-kept c = keeps_native c.args.shared.now c.perform.new.shared c.args.widget.now c.perform.new.widget c.perform.ensures.number c.perform.ensures.codes c.perform.ensures.kept
+
 pub returns-in_err-doing-clause-kept : goal.returns-in_err-doing-clause-kept
-returns-in_err-doing-clause-kept c = keeps_turn c.args.shared.now c.perform.new.shared c.args.widget.now c.perform.new.widget c.perform.ensures.number c.perform.ensures.codes c.perform.ensures.kept c.answer.new.shared.store c.answer.new.shared.page c.answer.ensures.page c.answer.ensures.kept
+returns-in_err-doing-clause-kept c = keeps_turn c.args.shared.now c.perform.new.shared c.args.widget.now c.perform.new.widget c.perform.ensures.number c.perform.ensures.codes c.perform.ensures.kept c.answer.new.shared c.answer.ensures.kept
 
 pub returns-clause-kept : goal.returns-clause-kept
-returns-clause-kept c = keeps_turn c.args.shared.now c.perform.new.shared c.args.widget.now c.perform.new.widget c.perform.ensures.number c.perform.ensures.codes c.perform.ensures.kept c.answer.new.shared.store c.answer.new.shared.page c.answer.ensures.page c.answer.ensures.kept
+returns-clause-kept c = keeps_turn c.args.shared.now c.perform.new.shared c.args.widget.now c.perform.new.widget c.perform.ensures.number c.perform.ensures.codes c.perform.ensures.kept c.answer.new.shared c.answer.ensures.kept
 
 pub returns-then-is_wanting-clause-moved : goal.returns-then-is_wanting-clause-moved
 returns-then-is_wanting-clause-moved c =

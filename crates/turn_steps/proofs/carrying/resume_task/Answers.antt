@@ -17,7 +17,7 @@ returns-in_err-stepped-clause-kept c =
     let h = c.args.shared.now in
     let F = forests h in
     let v = c.args.widget.now in
-    let w = v.number in
+    let w = v.id.index in
     let s = h.store in
     let p = h.page in
     let l = v.around in
@@ -26,7 +26,7 @@ returns-in_err-stepped-clause-kept c =
     let same = ap (λ (t : Task). t.widget) e ∙ c.requires.task in
     let kept = subst (λ n. Kept F n s mid) same c.resume.ensures.kept in
     let sound = sound_grows w s mid p l c.requires.widget.sound kept.grows (kept.nodes (owns p w) c.requires.widget.sound.holds.bunches) in
-    keeps_kept F w s mid p l c.requires.widget.sound.holds kept
+    record { turn = keeps_kept F w s mid p l c.requires.widget.sound.holds kept; number = refl; codes = refl }
 
 pub resume-requires-clause-held : goal.resume-requires-clause-held
 resume-requires-clause-held c =
@@ -41,7 +41,7 @@ follow-requires-clause-sound c =
     let h = c.args.shared.now in
     let F = forests h in
     let v = c.args.widget.now in
-    let w = v.number in
+    let w = v.id.index in
     let s = h.store in
     let p = h.page in
     let l = v.around in
@@ -57,7 +57,7 @@ follow-requires-clause-levels c =
     let h = c.args.shared.now in
     let F = forests h in
     let v = c.args.widget.now in
-    let w = v.number in
+    let w = v.id.index in
     let s = h.store in
     let p = h.page in
     let l = v.around in
@@ -73,7 +73,7 @@ returns-clause-answered c =
     let h = c.args.shared.now in
     let F = forests h in
     let v = c.args.widget.now in
-    let w = v.number in
+    let w = v.id.index in
     let s = h.store in
     let p = h.page in
     let l = v.around in
@@ -83,7 +83,7 @@ returns-clause-answered c =
     let kept = subst (λ n. Kept F n s mid) same c.resume.ensures.kept in
     let sound = sound_grows w s mid p l c.requires.widget.sound kept.grows (kept.nodes (owns p w) c.requires.widget.sound.holds.bunches) in
     let u = c.resume.new.task in
-    resume_answered h v c.requires.number c.requires.widget c.args.calls.now c.follow.new.calls c.requires.levels mid c.follow.new.store c.args.task.value u c.args.answer.0 c.args.answer.1 c.in_ok-stepped.stepped c.in_ok-doing.doing kept.grows
+    resume_answered h v c.args.widget.now.id.small c.requires.widget c.args.calls.now c.follow.new.calls c.requires.levels mid c.follow.new.store c.args.task.value u c.args.answer.0 c.args.answer.1 c.in_ok-stepped.stepped c.in_ok-doing.doing kept.grows
     (λ r. plan_told F s mid c.deref_mut-2.result.now c.args.task.value u c.args.answer.0 w c.args.answer.1 c.in_ok-stepped.stepped e c.requires.task c.in_ok-stepped.ensures.plan r (number p w))
     (subst (λ (t : Task). free u.control u.frames.list.items < free t.control t.frames.list.items) e c.in_ok-stepped.ensures.near)
     (c.resume.ensures.widget ∙ same)
@@ -95,7 +95,7 @@ returns-clause-fine c =
     let h = c.args.shared.now in
     let F = forests h in
     let v = c.args.widget.now in
-    let w = v.number in
+    let w = v.id.index in
     let s = h.store in
     let p = h.page in
     let l = v.around in
@@ -111,7 +111,7 @@ returns-in_err-doing-clause-kept c =
     let h = c.args.shared.now in
     let F = forests h in
     let v = c.args.widget.now in
-    let w = v.number in
+    let w = v.id.index in
     let s = h.store in
     let p = h.page in
     let l = v.around in
@@ -120,14 +120,14 @@ returns-in_err-doing-clause-kept c =
     let same = ap (λ (t : Task). t.widget) e ∙ c.requires.task in
     let kept = subst (λ n. Kept F n s mid) same c.resume.ensures.kept in
     let sound = sound_grows w s mid p l c.requires.widget.sound kept.grows (kept.nodes (owns p w) c.requires.widget.sound.holds.bunches) in
-    keeps_then F w s mid c.follow.new.store p p p l l (keeps_kept F w s mid p l c.requires.widget.sound.holds kept) (keeps_sound F w mid c.follow.new.store p l sound c.follow.ensures.kept)
+    record { turn = keeps_then F w s mid c.follow.new.store p p p l l (keeps_kept F w s mid p l c.requires.widget.sound.holds kept) (keeps_sound F w mid c.follow.new.store p l sound c.follow.ensures.kept); number = refl; codes = refl }
 
 pub returns-clause-kept : goal.returns-clause-kept
 returns-clause-kept c =
     let h = c.args.shared.now in
     let F = forests h in
     let v = c.args.widget.now in
-    let w = v.number in
+    let w = v.id.index in
     let s = h.store in
     let p = h.page in
     let l = v.around in
@@ -136,4 +136,4 @@ returns-clause-kept c =
     let same = ap (λ (t : Task). t.widget) e ∙ c.requires.task in
     let kept = subst (λ n. Kept F n s mid) same c.resume.ensures.kept in
     let sound = sound_grows w s mid p l c.requires.widget.sound kept.grows (kept.nodes (owns p w) c.requires.widget.sound.holds.bunches) in
-    keeps_then F w s mid c.follow.new.store p p p l l (keeps_kept F w s mid p l c.requires.widget.sound.holds kept) (keeps_sound F w mid c.follow.new.store p l sound c.follow.ensures.kept)
+    record { turn = keeps_then F w s mid c.follow.new.store p p p l l (keeps_kept F w s mid p l c.requires.widget.sound.holds kept) (keeps_sound F w mid c.follow.new.store p l sound c.follow.ensures.kept); number = refl; codes = refl }

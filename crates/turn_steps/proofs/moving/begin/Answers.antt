@@ -28,7 +28,7 @@ call_handler-requires c = subst (λ (h : Hearing). 0 < length h.handlers.items) 
 
 pub returns : goal.returns
 returns c =
-    let w = c.args.w in
+    let w = c.args.w.index in
     let h = c.args.hearing.value in
     let t = c.in_ok-task.task.value in
     let b = c.args.calls.now in

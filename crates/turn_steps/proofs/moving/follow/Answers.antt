@@ -16,7 +16,7 @@ use Rattle.turn_steps.proofs.moving.follow.Goals as goal
 
 pub returns-in-Went-clause-followed : goal.returns-in-Went-clause-followed
 returns-in-Went-clause-followed c =
-    let w = c.args.site.now.widget in
+    let w = c.args.site.now.id.index in
     let p = c.args.site.now.page.now in
     let l = c.args.site.now.around.now in
     let s = c.args.store.now in
@@ -29,11 +29,11 @@ returns-in-Went-clause-followed c =
     }
 
 pub returns-in-Went-clause-kept : goal.returns-in-Went-clause-kept
-returns-in-Went-clause-kept c = sound_same c.args.site.now.widget c.args.site.now.page.now c.args.store.now
+returns-in-Went-clause-kept c = sound_same c.args.site.now.id.index c.args.site.now.page.now c.args.store.now
 
 pub returns-in-Native-clause-followed : goal.returns-in-Native-clause-followed
 returns-in-Native-clause-followed c =
-    let w = c.args.site.now.widget in
+    let w = c.args.site.now.id.index in
     let p = c.args.site.now.page.now in
     let l = c.args.site.now.around.now in
     let s = c.args.store.now in
@@ -46,17 +46,17 @@ returns-in-Native-clause-followed c =
     }
 
 pub returns-in-Native-clause-kept : goal.returns-in-Native-clause-kept
-returns-in-Native-clause-kept c = sound_same c.args.site.now.widget c.args.site.now.page.now c.args.store.now
+returns-in-Native-clause-kept c = sound_same c.args.site.now.id.index c.args.site.now.page.now c.args.store.now
 
 pub give_on-requires-clause-levels : goal.give_on-requires-clause-levels
 give_on-requires-clause-levels c = let g = c.requires.levels in (g.0, g.1)
 
 pub give_on-requires-clause-how : goal.give_on-requires-clause-how
-give_on-requires-clause-how c = let g = c.requires.levels in subst (λ (k : Stepped). FineStepped g.0 c.args.site.now.widget c.args.store.now.cells (machine k)) c.in-Done.is g.2.1
+give_on-requires-clause-how c = let g = c.requires.levels in subst (λ (k : Stepped). FineStepped g.0 c.args.site.now.id.index c.args.store.now.cells (machine k)) c.in-Done.is g.2.1
 
 pub returns-in-Done-clause-followed : goal.returns-in-Done-clause-followed
 returns-in-Done-clause-followed c =
-    let w = c.args.site.now.widget in
+    let w = c.args.site.now.id.index in
     let p = c.args.site.now.page.now in
     let l = c.args.site.now.around.now in
     let s = c.args.store.now in
@@ -75,11 +75,11 @@ pub give_on-requires-in-Threw-clause-levels : goal.give_on-requires-in-Threw-cla
 give_on-requires-in-Threw-clause-levels c = let g = c.requires.levels in (g.0, g.1)
 
 pub give_on-requires-in-Threw-clause-how : goal.give_on-requires-in-Threw-clause-how
-give_on-requires-in-Threw-clause-how c = let g = c.requires.levels in subst (λ (k : Stepped). FineStepped g.0 c.args.site.now.widget c.args.store.now.cells (machine k)) c.in-Threw.is g.2.1
+give_on-requires-in-Threw-clause-how c = let g = c.requires.levels in subst (λ (k : Stepped). FineStepped g.0 c.args.site.now.id.index c.args.store.now.cells (machine k)) c.in-Threw.is g.2.1
 
 pub returns-in-Threw-clause-followed : goal.returns-in-Threw-clause-followed
 returns-in-Threw-clause-followed c =
-    let w = c.args.site.now.widget in
+    let w = c.args.site.now.id.index in
     let p = c.args.site.now.page.now in
     let l = c.args.site.now.around.now in
     let s = c.args.store.now in
@@ -96,7 +96,7 @@ returns-in-Threw-clause-followed c =
 
 pub returns-in-Stop-clause-followed : goal.returns-in-Stop-clause-followed
 returns-in-Stop-clause-followed c =
-    stop_followed c.args.site.now.widget c.args.site.now.page.now c.args.site.now.around.now c.args.store.now c.args.calls.now c.args.task c.args.stepped c.requires.follows c.in-Stop.stop c.stopped.result c.stopped.ensures.due c.stopped.ensures.fuel c.in-Stop.is
+    stop_followed c.args.site.now.id.index c.args.site.now.page.now c.args.site.now.around.now c.args.store.now c.args.calls.now c.args.task c.args.stepped c.requires.follows c.in-Stop.stop c.stopped.result c.stopped.ensures.due c.stopped.ensures.fuel c.in-Stop.is
 
 pub returns-in-Stop-clause-kept : goal.returns-in-Stop-clause-kept
-returns-in-Stop-clause-kept c = sound_same c.args.site.now.widget c.args.site.now.page.now c.args.store.now
+returns-in-Stop-clause-kept c = sound_same c.args.site.now.id.index c.args.site.now.page.now c.args.store.now

@@ -18,7 +18,7 @@ pub advance-requires-clause-other : goal.advance-requires-clause-other
 advance-requires-clause-other c = ap runs c.take-doing.ensures ∙ c.requires.other
 
 pub advance-requires-clause-doing : goal.advance-requires-clause-doing
-advance-requires-clause-doing c = subst (FineDoing (forests c.args.shared.now) c.args.widget.now.number c.args.shared.now.store c.args.shared.now.page) (sym c.take-doing.ensures) c.requires.turn.doing
+advance-requires-clause-doing c = subst (FineDoing (forests c.args.shared.now) c.args.widget.now.id.index c.args.shared.now.store c.args.shared.now.page) (sym c.take-doing.ensures) c.requires.turn.doing
 
 pub overflow_sub-turn : goal.overflow_sub-turn
 overflow_sub-turn c = omega (arith, c.in_ok-moved.ensures.moved.spends, c.left.ensures.value, ap (λ (q : Fuel). q.left) c.new-meter.ensures)

@@ -24,18 +24,18 @@ false_true e = cc
 
 pub stride-requires-clause-going : goal.stride-requires-clause-going
 stride-requires-clause-going c =
-    let fine = runs_fine c.args.shared.now c.args.widget.now.number c.args.turn.now.doing c.in-Runs.task c.in-Runs.is c.requires.turn.doing in
+    let fine = runs_fine c.args.shared.now c.args.widget.now.id.index c.args.turn.now.doing c.in-Runs.task c.in-Runs.is c.requires.turn.doing in
     subst (λ (t : Task). IsGoing t.control) (sym c.deref_mut.ensures.value) fine.going
 
 pub stride-requires-clause-widget : goal.stride-requires-clause-widget
 stride-requires-clause-widget c =
-    let fine = runs_fine c.args.shared.now c.args.widget.now.number c.args.turn.now.doing c.in-Runs.task c.in-Runs.is c.requires.turn.doing in
-    subst (λ (n : ℕ). n < 32) (sym (ap (λ (t : Task). t.widget) c.deref_mut.ensures.value ∙ fine.widget)) c.requires.number
+    let fine = runs_fine c.args.shared.now c.args.widget.now.id.index c.args.turn.now.doing c.in-Runs.task c.in-Runs.is c.requires.turn.doing in
+    subst (λ (n : ℕ). n < 32) (sym (ap (λ (t : Task). t.widget) c.deref_mut.ensures.value ∙ fine.widget)) c.args.widget.now.id.small
 
 pub stride-requires-clause-confined : goal.stride-requires-clause-confined
 stride-requires-clause-confined c =
     let h = c.args.shared.now in
-    let fine = runs_fine h c.args.widget.now.number c.args.turn.now.doing c.in-Runs.task c.in-Runs.is c.requires.turn.doing in
+    let fine = runs_fine h c.args.widget.now.id.index c.args.turn.now.doing c.in-Runs.task c.in-Runs.is c.requires.turn.doing in
     subst (λ (n : ℕ). IsConfined (forests h) n h.store) (sym (ap (λ (t : Task). t.widget) c.deref_mut.ensures.value ∙ fine.widget)) c.requires.widget.confined
 
 pub stride-requires-clause-held : goal.stride-requires-clause-held
@@ -43,7 +43,7 @@ stride-requires-clause-held c =
     let h = c.args.shared.now in
     let F = forests h in
     let task = c.in-Runs.task in
-    let fine = runs_fine h c.args.widget.now.number c.args.turn.now.doing task c.in-Runs.is c.requires.turn.doing in
+    let fine = runs_fine h c.args.widget.now.id.index c.args.turn.now.doing task c.in-Runs.is c.requires.turn.doing in
     subst (λ (t : Task). IsFineTask F t.widget h.store t) (sym c.deref_mut.ensures.value)
     (subst (λ (n : ℕ). IsFineTask F n h.store task.value) (sym fine.widget) (fine.control, fine.frames, fine.call))
 
@@ -52,7 +52,7 @@ follow-requires-clause-sound c =
     let h = c.args.shared.now in
     let F = forests h in
     let v = c.args.widget.now in
-    let w = v.number in
+    let w = v.id.index in
     let t = c.args.turn.now in
     let old = h.store in
     let mid = c.stride.new.store in
@@ -61,14 +61,14 @@ follow-requires-clause-sound c =
     let fine = runs_fine h w t.doing task c.in-Runs.is c.requires.turn.doing in
     let mine : c.deref_mut.result.now.widget ≡ w = ap (λ (x : Task). x.widget) at ∙ fine.widget in
     let kept = subst (λ (n : ℕ). Kept F n old mid) mine c.stride.ensures.kept in
-    sound_stays h v c.requires.number mid mid t.calls t.calls c.requires.widget c.requires.turn.levels kept
+    sound_stays h v c.args.widget.now.id.small mid mid t.calls t.calls c.requires.widget c.requires.turn.levels kept
 
 pub follow-requires-clause-levels : goal.follow-requires-clause-levels
 follow-requires-clause-levels c =
     let h = c.args.shared.now in
     let F = forests h in
     let v = c.args.widget.now in
-    let w = v.number in
+    let w = v.id.index in
     let t = c.args.turn.now in
     let old = h.store in
     let mid = c.stride.new.store in
@@ -81,7 +81,7 @@ follow-requires-clause-levels c =
     let taken : c.take_task-task.result ≡ ended = c.take_task-task.ensures ended refl in
     let held = subst (λ (n : ℕ). IsFineAfter F n mid c.stride.new.task c.in_ok-stepped.stepped) mine c.in_ok-stepped.ensures.held in (
       F,
-      levels_stay h v c.requires.number mid mid t.calls t.calls c.requires.widget c.requires.turn.levels kept,
+      levels_stay h v c.args.widget.now.id.small mid mid t.calls t.calls c.requires.widget c.requires.turn.levels kept,
       subst (λ (x : Box Task Global). IsFineAfter F w mid x.value c.in_ok-stepped.stepped) (sym taken) held,
     )
 
@@ -95,7 +95,7 @@ returns-then-is_short-clause-stepped c =
     let h = c.args.shared.now in
     let F = forests h in
     let v = c.args.widget.now in
-    let w = v.number in
+    let w = v.id.index in
     let t = c.args.turn.now in
     let old = h.store in
     let mid = c.stride.new.store in
@@ -119,19 +119,19 @@ returns-then-is_short-clause-stepped c =
     let ended : Box Task Global = record task { value = u } in
     let new = record h { store = mid } in
     let is = sym c.is_short.ensures ∙ c.if-is_short.true in
-    let stay = levels_stay h v c.requires.number mid mid t.calls t.calls c.requires.widget c.requires.turn.levels kept in
+    let stay = levels_stay h v c.args.widget.now.id.small mid mid t.calls t.calls c.requires.widget c.requires.turn.levels kept in
     let followed = short_followed w h.page v.around mid t.calls ended k is c.in_ok-stepped.ensures.follows in
     let fine_new = followed.fine F same held stay in
-    let moved = λ (x : Outside). task_strides h v c.requires.number mid mid t.calls t.calls c.requires.widget c.requires.turn.levels kept x c.args.units (all - has) task.value c.deref_mut.result.now u k (doing.Runs ended) at strides followed in record {
+    let moved = λ (x : Outside). task_strides h v c.args.widget.now.id.small mid mid t.calls t.calls c.requires.widget c.requires.turn.levels kept x c.args.units (all - has) task.value c.deref_mut.result.now u k (doing.Runs ended) at strides followed in record {
       strides = λ x. subst (λ (d : Doing). Strides c.args.units (all - has) (doing_in x h v t.calls d) (doing_in x new v t.calls (doing.Runs ended))) (sym c.in-Runs.is) (moved x);
       spends = less;
       fine = record { doing = fine_new.0; levels = fine_new.1 };
-      cut = λ e ge x. short_in new v c.requires.number t.calls 0 x ended
+      cut = λ e ge x. short_in new v c.args.widget.now.id.small t.calls 0 x ended
           (by_short ((r : Rest) → run_plan 0 (remaining F w mid u r) ≡ out_of_fuel (image F r w mid) 0) k is
           (λ q. subst (λ (n : ℕ). (r : Rest) → run_plan 0 (remaining F n mid u r) ≡ out_of_fuel (image F r n mid) 0) mine (c.in_ok-stepped.ensures.cut q).1)
           (λ q. let f = c.in_ok-stepped.ensures.fuel q in absurd (omega (arith, f.0, ge, cost))));
       stop = λ e lt x. subst (λ (n : ℕ). run_plan n (doing_in x new v t.calls (doing.Runs ended)) ≡ out_of_fuel (state_in x new v t.calls.dispatches.items) n) (sym left)
-          (short_in new v c.requires.number t.calls c.stride.new.meter.left x ended
+          (short_in new v c.args.widget.now.id.small t.calls c.stride.new.meter.left x ended
           (by_short ((r : Rest) → run_plan c.stride.new.meter.left (remaining F w mid u r) ≡ out_of_fuel (image F r w mid) c.stride.new.meter.left) k is
           (λ q. let f = c.in_ok-stepped.ensures.cut q in absurd (omega (arith, f.0, lt, cost)))
           (λ q. subst (λ (n : ℕ). (r : Rest) → run_plan c.stride.new.meter.left (remaining F n mid u r) ≡ out_of_fuel (image F r n mid) c.stride.new.meter.left) mine (c.in_ok-stepped.ensures.fuel q).1)));
@@ -143,7 +143,7 @@ returns-then-is_short-clause-fine c =
     let h = c.args.shared.now in
     let F = forests h in
     let v = c.args.widget.now in
-    let w = v.number in
+    let w = v.id.index in
     let t = c.args.turn.now in
     let old = h.store in
     let mid = c.stride.new.store in
@@ -154,7 +154,7 @@ returns-then-is_short-clause-fine c =
     let kept = subst (λ (n : ℕ). Kept F n old mid) mine c.stride.ensures.kept in
     record {
       confined = kept.confined c.requires.widget.confined;
-      sound = sound_stays h v c.requires.number mid mid t.calls t.calls c.requires.widget c.requires.turn.levels kept;
+      sound = sound_stays h v c.args.widget.now.id.small mid mid t.calls t.calls c.requires.widget c.requires.turn.levels kept;
     }
 
 pub returns-then-is_short-clause-kept : goal.returns-then-is_short-clause-kept
@@ -162,7 +162,7 @@ returns-then-is_short-clause-kept c =
     let h = c.args.shared.now in
     let F = forests h in
     let v = c.args.widget.now in
-    let w = v.number in
+    let w = v.id.index in
     let t = c.args.turn.now in
     let old = h.store in
     let mid = c.stride.new.store in
@@ -171,14 +171,14 @@ returns-then-is_short-clause-kept c =
     let fine = runs_fine h w t.doing task c.in-Runs.is c.requires.turn.doing in
     let mine : c.deref_mut.result.now.widget ≡ w = ap (λ (x : Task). x.widget) at ∙ fine.widget in
     let kept = subst (λ (n : ℕ). Kept F n old mid) mine c.stride.ensures.kept in
-    keeps_kept F w old mid h.page v.around c.requires.widget.sound.holds kept
+    record { turn = keeps_kept F w old mid h.page v.around c.requires.widget.sound.holds kept; number = refl; codes = refl }
 
 pub returns-clause-stepped : goal.returns-clause-stepped
 returns-clause-stepped c =
     let h = c.args.shared.now in
     let F = forests h in
     let v = c.args.widget.now in
-    let w = v.number in
+    let w = v.id.index in
     let t = c.args.turn.now in
     let old = h.store in
     let mid = c.stride.new.store in
@@ -211,9 +211,9 @@ returns-clause-stepped c =
     let weight = ap (λ (q : Task). free q.control q.frames.list.items) at in
     let was = ap (λ (q : Doing). doing_free q) c.in-Runs.is in
     let followed = subst (λ (x : Box Task Global). IsFollowed w h.page v.around mid s t.calls a x.value k d) taken c.in_ok-doing.ensures.followed in
-    let stay = levels_stay h v c.requires.number mid s t.calls a c.requires.widget c.requires.turn.levels kept in
+    let stay = levels_stay h v c.args.widget.now.id.small mid s t.calls a c.requires.widget c.requires.turn.levels kept in
     let fine_new = followed.fine F same held stay in
-    let moved = λ (x : Outside). task_strides h v c.requires.number mid s t.calls a c.requires.widget c.requires.turn.levels kept x c.args.units (all - has) task.value c.deref_mut.result.now u k d at strides followed in
+    let moved = λ (x : Outside). task_strides h v c.args.widget.now.id.small mid s t.calls a c.requires.widget c.requires.turn.levels kept x c.args.units (all - has) task.value c.deref_mut.result.now u k d at strides followed in
     subst (λ (q : Doing). IsStepped c.args.units h new v v t (record { doing = q; calls = a; left = has }) false) (sym c.put.ensures) (record {
       strides = λ x. subst (λ (q : Doing). Strides c.args.units (all - has) (doing_in x h v t.calls q) (doing_in x new v a d)) (sym c.in-Runs.is) (moved x);
       spends = less;
@@ -228,7 +228,7 @@ returns-clause-fine c =
     let h = c.args.shared.now in
     let F = forests h in
     let v = c.args.widget.now in
-    let w = v.number in
+    let w = v.id.index in
     let t = c.args.turn.now in
     let old = h.store in
     let mid = c.stride.new.store in
@@ -237,7 +237,7 @@ returns-clause-fine c =
     let fine = runs_fine h w t.doing task c.in-Runs.is c.requires.turn.doing in
     let mine : c.deref_mut.result.now.widget ≡ w = ap (λ (x : Task). x.widget) at ∙ fine.widget in
     let kept = subst (λ (n : ℕ). Kept F n old mid) mine c.stride.ensures.kept in
-    let sound = sound_stays h v c.requires.number mid mid t.calls t.calls c.requires.widget c.requires.turn.levels kept in record {
+    let sound = sound_stays h v c.args.widget.now.id.small mid mid t.calls t.calls c.requires.widget c.requires.turn.levels kept in record {
       confined = c.follow.ensures.kept.kept.confined F (kept.confined c.requires.widget.confined);
       sound = c.follow.ensures.kept.sound v.around sound;
     }
@@ -247,7 +247,7 @@ returns-clause-kept c =
     let h = c.args.shared.now in
     let F = forests h in
     let v = c.args.widget.now in
-    let w = v.number in
+    let w = v.id.index in
     let t = c.args.turn.now in
     let old = h.store in
     let mid = c.stride.new.store in
@@ -256,15 +256,15 @@ returns-clause-kept c =
     let fine = runs_fine h w t.doing task c.in-Runs.is c.requires.turn.doing in
     let mine : c.deref_mut.result.now.widget ≡ w = ap (λ (x : Task). x.widget) at ∙ fine.widget in
     let kept = subst (λ (n : ℕ). Kept F n old mid) mine c.stride.ensures.kept in
-    let sound = sound_stays h v c.requires.number mid mid t.calls t.calls c.requires.widget c.requires.turn.levels kept in
-    keeps_then F w old mid c.follow.new.store h.page h.page h.page v.around v.around (keeps_kept F w old mid h.page v.around c.requires.widget.sound.holds kept) (keeps_sound F w mid c.follow.new.store h.page v.around sound c.follow.ensures.kept)
+    let sound = sound_stays h v c.args.widget.now.id.small mid mid t.calls t.calls c.requires.widget c.requires.turn.levels kept in
+    record { turn = keeps_then F w old mid c.follow.new.store h.page h.page h.page v.around v.around (keeps_kept F w old mid h.page v.around c.requires.widget.sound.holds kept) (keeps_sound F w mid c.follow.new.store h.page v.around sound c.follow.ensures.kept); number = refl; codes = refl }
 
 pub returns-in_err-doing-clause-kept : goal.returns-in_err-doing-clause-kept
 returns-in_err-doing-clause-kept c =
     let h = c.args.shared.now in
     let F = forests h in
     let v = c.args.widget.now in
-    let w = v.number in
+    let w = v.id.index in
     let t = c.args.turn.now in
     let old = h.store in
     let mid = c.stride.new.store in
@@ -273,15 +273,15 @@ returns-in_err-doing-clause-kept c =
     let fine = runs_fine h w t.doing task c.in-Runs.is c.requires.turn.doing in
     let mine : c.deref_mut.result.now.widget ≡ w = ap (λ (x : Task). x.widget) at ∙ fine.widget in
     let kept = subst (λ (n : ℕ). Kept F n old mid) mine c.stride.ensures.kept in
-    let sound = sound_stays h v c.requires.number mid mid t.calls t.calls c.requires.widget c.requires.turn.levels kept in
-    keeps_then F w old mid c.follow.new.store h.page h.page h.page v.around v.around (keeps_kept F w old mid h.page v.around c.requires.widget.sound.holds kept) (keeps_sound F w mid c.follow.new.store h.page v.around sound c.follow.ensures.kept)
+    let sound = sound_stays h v c.args.widget.now.id.small mid mid t.calls t.calls c.requires.widget c.requires.turn.levels kept in
+    record { turn = keeps_then F w old mid c.follow.new.store h.page h.page h.page v.around v.around (keeps_kept F w old mid h.page v.around c.requires.widget.sound.holds kept) (keeps_sound F w mid c.follow.new.store h.page v.around sound c.follow.ensures.kept); number = refl; codes = refl }
 
 pub returns-in_err-stepped-clause-kept : goal.returns-in_err-stepped-clause-kept
 returns-in_err-stepped-clause-kept c =
     let h = c.args.shared.now in
     let F = forests h in
     let v = c.args.widget.now in
-    let w = v.number in
+    let w = v.id.index in
     let t = c.args.turn.now in
     let old = h.store in
     let mid = c.stride.new.store in
@@ -290,4 +290,4 @@ returns-in_err-stepped-clause-kept c =
     let fine = runs_fine h w t.doing task c.in-Runs.is c.requires.turn.doing in
     let mine : c.deref_mut.result.now.widget ≡ w = ap (λ (x : Task). x.widget) at ∙ fine.widget in
     let kept = subst (λ (n : ℕ). Kept F n old mid) mine c.stride.ensures.kept in
-    keeps_kept F w old mid h.page v.around c.requires.widget.sound.holds kept
+    record { turn = keeps_kept F w old mid h.page v.around c.requires.widget.sound.holds kept; number = refl; codes = refl }

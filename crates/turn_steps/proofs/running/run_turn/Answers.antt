@@ -1,13 +1,10 @@
-use Rattle.std.proofs.Common.{◌≡◌, ℕ, ◌-◌, ◌<◌, ◌≤◌, List, arith, ◌∙◌, refl, subst, sym}
-use Rattle.js_tree.specs.Forest.{Forest}
-use Rattle.js_names.specs.Code.{trees_of}
+use Rattle.std.proofs.Common.{◌≡◌, ℕ, ◌-◌, ◌≤◌, arith, refl, subst, sym}
 use Rattle.native_image.specs.Image.{Outside}
 use Rattle.life_laws.specs.Life.{Fixed, Runs}
 use Rattle.life_laws.proofs.Runs.{runs_none}
-use Rattle.turn_steps.specs.Keeping.{KeepsTurn}
 use Rattle.turn_steps.specs.Steps.{IsStepped}
 use Rattle.turn_steps.specs.Turning.{FineTurn, forests, turn_in}
-use Rattle.turn_steps.proofs.Kept.{keeps_same, keeps_then}
+use Rattle.turn_steps.proofs.Kept.{keeps_on, keeps_same}
 use Rattle.turn_steps.proofs.Strided.{runs_on}
 use Rattle.turn_steps.proofs.Came.{ran_ended, ran_fine, ran_short}
 use Rattle.turn_steps.proofs.running.run_turn.Goals as goal
@@ -22,16 +19,11 @@ steps-init c =
       runs = λ f x. subst (λ (n : ℕ). Runs c.args.units n (turn_in x h v f t) (turn_in x h v f t)) none (runs_none c.args.units (turn_in x h v f t));
       widget = c.requires.widget;
       turn = c.requires.turn;
-      kept = keeps_same (forests h) v.number h.store h.page v.around c.requires.widget.sound.holds;
-      number = refl;
-      codes = refl;
+      kept = record { turn = keeps_same (forests h) v.id.index h.store h.page v.around c.requires.widget.sound.holds; number = refl; codes = refl };
     }
 
-pub move_on-requires-clause-number : goal.move_on-requires-clause-number
-move_on-requires-clause-number c = subst (λ (n : ℕ). n < 32) (sym c.steps.invariant.number) c.requires.number
-
 pub move_on-requires-clause-turn : goal.move_on-requires-clause-turn
-move_on-requires-clause-turn c = subst (λ (n : ℕ). FineTurn c.steps.shared n c.steps.turn) (sym c.steps.invariant.number) c.steps.invariant.turn
+move_on-requires-clause-turn c = subst (λ (n : ℕ). FineTurn c.steps.shared n c.steps.turn) (sym c.steps.invariant.kept.number) c.steps.invariant.turn
 
 pub short-requires : goal.short-requires
 short-requires c =
@@ -62,17 +54,13 @@ steps-preserved c =
     let m = subst (λ (n : ℕ). IsStepped n mid new c.steps.widget u at s c.in_ok-is_short.is_short) c.units_left-rest.ensures c.in_ok-is_short.ensures.stepped in
     let less : s.left ≤ t.left = omega (arith, m.spends, inv.less) in
     let on = λ (f : Fixed) (x : Outside). runs_on k t.left (turn_in x old v f t) (turn_in x mid c.steps.widget f at) (turn_in x new u f s) (inv.runs f x) (m.strides x) refl m.spends inv.less in
-    let kept = subst (λ (fs : List Forest). KeepsTurn fs v.number mid.store new.store mid.page new.page u.around) (λ j. trees_of (inv.codes j).items)
-    (subst (λ (n : ℕ). KeepsTurn (forests mid) n mid.store new.store mid.page new.page u.around) inv.number c.move_on.ensures.kept) in
-    let all = keeps_then (forests old) v.number old.store mid.store new.store old.page mid.page new.page c.steps.widget.around u.around inv.kept kept in
+    let all = keeps_on old mid new v c.steps.widget u inv.kept c.move_on.ensures.kept in
     record {
       less = less;
       runs = on;
       widget = c.in_ok-is_short.ensures.fine;
-      turn = subst (λ (n : ℕ). FineTurn new n s) (c.move_on.ensures.number ∙ inv.number) m.fine;
+      turn = subst (λ (n : ℕ). FineTurn new n s) all.number m.fine;
       kept = all;
-      number = c.move_on.ensures.number ∙ inv.number;
-      codes = c.move_on.ensures.codes ∙ inv.codes;
     }
 
 pub steps-smaller : goal.steps-smaller
@@ -90,9 +78,7 @@ returns-in_err-is_short-clause-kept c =
     let new = c.move_on.new.shared in
     let v = c.args.widget.now in
     let u = c.move_on.new.widget in
-    let kept = subst (λ (fs : List Forest). KeepsTurn fs v.number mid.store new.store mid.page new.page u.around) (λ j. trees_of (inv.codes j).items)
-    (subst (λ (n : ℕ). KeepsTurn (forests mid) n mid.store new.store mid.page new.page u.around) inv.number c.move_on.ensures.kept) in
-    let all = keeps_then (forests old) v.number old.store mid.store new.store old.page mid.page new.page c.steps.widget.around u.around inv.kept kept in
+    let all = keeps_on old mid new v c.steps.widget u inv.kept c.move_on.ensures.kept in
     all
 
 pub returns-then-is_short-clause-ran : goal.returns-then-is_short-clause-ran
@@ -143,9 +129,7 @@ returns-then-is_short-clause-kept c =
     let new = c.move_on.new.shared in
     let v = c.args.widget.now in
     let u = c.move_on.new.widget in
-    let kept = subst (λ (fs : List Forest). KeepsTurn fs v.number mid.store new.store mid.page new.page u.around) (λ j. trees_of (inv.codes j).items)
-    (subst (λ (n : ℕ). KeepsTurn (forests mid) n mid.store new.store mid.page new.page u.around) inv.number c.move_on.ensures.kept) in
-    let all = keeps_then (forests old) v.number old.store mid.store new.store old.page mid.page new.page c.steps.widget.around u.around inv.kept kept in
+    let all = keeps_on old mid new v c.steps.widget u inv.kept c.move_on.ensures.kept in
     all
 
 pub returns-clause-ran : goal.returns-clause-ran
@@ -156,4 +140,4 @@ returns-clause-ran c =
     (inv.runs f x) (c.ended-how.ensures.out x c.steps.shared c.steps.widget) c.ended-how.ensures.due
 
 pub returns-clause-fine : goal.returns-clause-fine
-returns-clause-fine c = c.ended-how.ensures.fine c.steps.shared c.steps.widget (subst (λ (n : ℕ). FineTurn c.steps.shared n c.steps.turn) (sym c.steps.invariant.number) c.steps.invariant.turn)
+returns-clause-fine c = c.ended-how.ensures.fine c.steps.shared c.steps.widget (subst (λ (n : ℕ). FineTurn c.steps.shared n c.steps.turn) (sym c.steps.invariant.kept.number) c.steps.invariant.turn)

@@ -1,9 +1,9 @@
-use Rattle.std.proofs.Common.{◌≡◌, ◌-◌, ◌≤◌}
+use Rattle.std.proofs.Common.{◌-◌, ◌≤◌}
 use Rattle.native_image.specs.Image.{Outside}
 use Rattle.life_laws.specs.Life.{Fixed, Runs}
-use Rattle.turn_steps.specs.Keeping.{KeepsTurn}
+use Rattle.turn_steps.specs.Keeping.{Keeps}
 use Rattle.turn_steps.specs.Steps.{near}
-use Rattle.turn_steps.specs.Turning.{FineTurn, FineWidget, forests, turn_in}
+use Rattle.turn_steps.specs.Turning.{FineTurn, FineWidget, turn_in}
 use Rattle.turn_steps.proofs.running.run_turn.Given as goal
 
 abbrev pub invariant-steps : goal.invariant-steps
@@ -12,10 +12,8 @@ invariant-steps l =
       less : l.turn.left ≤ l.fn.turn.left;
       runs : (f : Fixed) (x : Outside) → Runs l.units (l.fn.turn.left - l.turn.left) (turn_in x l.fn.shared l.fn.widget f l.fn.turn) (turn_in x l.shared l.widget f l.turn);
       widget : FineWidget l.shared l.widget;
-      turn : FineTurn l.shared l.fn.widget.number l.turn;
-      kept : KeepsTurn (forests l.fn.shared) l.fn.widget.number l.fn.shared.store l.shared.store l.fn.shared.page l.shared.page l.widget.around;
-      number : l.widget.number ≡ l.fn.widget.number;
-      codes : l.shared.codes ≡ l.fn.shared.codes;
+      turn : FineTurn l.shared l.fn.widget.id.index l.turn;
+      kept : Keeps l.fn.shared l.shared l.fn.widget l.widget;
     }
 
 abbrev pub decreases-steps : goal.decreases-steps
