@@ -1,4 +1,5 @@
 pub mod Input
+pub mod LongMarks
 pub mod Reading
 pub mod Listed
 pub mod Keys

@@ -1,5 +1,5 @@
 //! What the grammar sees of a token.
-ghost use Rattle.std.specs.Prelude.{◌≡◌, map};
+ghost use Rattle.std.specs.Prelude.{◌≡◌, [], ◌∷◌, map};
 ghost use Rattle.js_tokens.specs.Lexes.{IsTokenOf};
 ghost use Rattle.js_cursor.specs.Signs.{look_up, words, marks, sign_of};
 
@@ -38,34 +38,14 @@ static WORDS: [(&[u8], Sign); 28] = [
     (b"with", Sign::With),
 ];
 
-// The marks, the frequent ones first.
-static MARKS: [(&[u8], Sign); 48] = [
-    (b"(", Sign::Open),
-    (b")", Sign::Close),
-    (b";", Sign::Semicolon),
-    (b",", Sign::Comma),
-    (b".", Sign::Point),
-    (b"{", Sign::OpenBrace),
-    (b"}", Sign::CloseBrace),
-    (b"=", Sign::Assign),
-    (b"[", Sign::OpenSquare),
-    (b"]", Sign::CloseSquare),
-    (b":", Sign::Colon),
+// The marks of more than one byte, the frequent ones first.
+static LONG_MARKS: [(&[u8], Sign); 24] = [
     (b"===", Sign::Same),
-    (b"+", Sign::Plus),
-    (b"-", Sign::Minus),
     (b"++", Sign::PlusPlus),
     (b"&&", Sign::AndAnd),
     (b"||", Sign::OrOr),
-    (b"<", Sign::Less),
-    (b">", Sign::Greater),
-    (b"!", Sign::Not),
-    (b"?", Sign::Question),
     (b"!==", Sign::NotSame),
     (b"+=", Sign::PlusAssign),
-    (b"*", Sign::Star),
-    (b"/", Sign::Slash),
-    (b"%", Sign::Percent),
     (b"<=", Sign::LessEqual),
     (b">=", Sign::GreaterEqual),
     (b"==", Sign::Equal),
@@ -75,10 +55,6 @@ static MARKS: [(&[u8], Sign); 48] = [
     (b"*=", Sign::StarAssign),
     (b"/=", Sign::SlashAssign),
     (b"%=", Sign::PercentAssign),
-    (b"&", Sign::BitAnd),
-    (b"|", Sign::BitOr),
-    (b"^", Sign::BitXor),
-    (b"~", Sign::BitNot),
     (b"<<", Sign::ShiftLeft),
     (b">>", Sign::ShiftRight),
     (b">>>", Sign::ShiftRightZero),
@@ -110,12 +86,48 @@ fn word_sign(spelling: &[u8]) -> Sign
     sign_in(&WORDS, spelling)
 }
 
-// The sign of a mark.
+// The sign of a mark of one byte.
 #[tactic(auto, unfolding(crate::specs::Signs::marks))]
+fn single_sign(byte: u8) -> Sign
+    ensures { result ≡ look_up marks (byte ∷ []) }
+{
+    match byte {
+        b'(' => Sign::Open,
+        b')' => Sign::Close,
+        b';' => Sign::Semicolon,
+        b',' => Sign::Comma,
+        b'.' => Sign::Point,
+        b'{' => Sign::OpenBrace,
+        b'}' => Sign::CloseBrace,
+        b'=' => Sign::Assign,
+        b'[' => Sign::OpenSquare,
+        b']' => Sign::CloseSquare,
+        b':' => Sign::Colon,
+        b'+' => Sign::Plus,
+        b'-' => Sign::Minus,
+        b'<' => Sign::Less,
+        b'>' => Sign::Greater,
+        b'!' => Sign::Not,
+        b'?' => Sign::Question,
+        b'*' => Sign::Star,
+        b'/' => Sign::Slash,
+        b'%' => Sign::Percent,
+        b'&' => Sign::BitAnd,
+        b'|' => Sign::BitOr,
+        b'^' => Sign::BitXor,
+        b'~' => Sign::BitNot,
+        _ => Sign::Unused,
+    }
+}
+
+// The sign of a mark.
 fn mark_sign(spelling: &[u8]) -> Sign
     ensures { result ≡ look_up marks spelling.now }
 {
-    sign_in(&MARKS, spelling)
+    if spelling.len() == 1 {
+        return single_sign(spelling[0]);
+    }
+    sign_in(&LONG_MARKS, spelling)
 }
 
 /// What the grammar sees of a token of these bytes.

@@ -1,13 +1,14 @@
 -- What is found means what the relations say.
-use Rattle.std.proofs.Common.{◌≡◌, ℕ, List, [], ◌∷◌, Bool, true, false, Option, Some, None, refl, ap, ◌∙◌}
+use Rattle.std.proofs.Common.{◌≡◌, ℕ, List, [], ◌∷◌, Bool, true, false, Option, Some, None, refl, ap, ◌∙◌, arith}
 use Rattle.std.specs.Prelude.{nat_eq, if◌then◌else◌}
 use Rattle.std.proofs.lemmas.Bool.{cond_both, eqb-true}
+use Rattle.std.proofs.lemmas.Bool.Decides.{nat_tests}
 use Rattle.js_tokens.specs.declared.token.Token.{Token}
 use Rattle.js_tokens.specs.declared.token.TokenKind.{TokenKind}
 use Rattle.js_tokens.specs.declared.token.TokenKind.TheVariants as kind
 use Rattle.js_tokens.specs.declared.class.Class.{Class}
 use Rattle.js_tokens.specs.declared.class.Class.TheVariants as class
-use Rattle.js_tokens.specs.Characters.{class_of, is_digit, is_in_line, is_part, Begins}
+use Rattle.js_tokens.specs.Characters.{class_of, is_letter, is_digit, is_blank, is_in_line, is_part, Begins}
 use Rattle.js_tokens.specs.Lexes.{begins_comment, Spelled, IsLongest, IsApart, Reads, Bad, FirstBad}
 use Rattle.js_tokens.specs.Lexes.Reads.{blank, line_comment, comment}
 use Rattle.js_tokens.specs.Lexes.Bad.{glued, unclosed, bad_escape, open_comment, other}
@@ -58,6 +59,23 @@ string_means c cs (Some rest) (Some place) q e f = bad_escape q (closed_sound c 
 point_means : (c : ℕ) (cs : List ℕ) (b : Bool) → class_of c ≡ class.Point → Begins is_digit cs ≡ b → Means (c ∷ cs) (if b then found_number (c ∷ cs) (after_exponent (after_run is_digit cs)) else scan.Token kind.Mark cs)
 point_means c cs true q e = number_means (c ∷ cs) (after_exponent (after_run is_digit cs)) (scanned c cs class.Point q ∙ ap (λ b. scan_point b cs) e)
 point_means c cs false q e = token_means kind.Mark (c ∷ cs) cs (scanned c cs class.Point q ∙ ap (λ b. scan_point b cs) e) tt
+
+blank_class : (c : ℕ) → is_blank c ≡ true → class_of c ≡ class.Blank
+blank_class c e =
+    let no_letter : is_letter c ≡ false = grind (arith, nat_tests) in
+    let no_digit : is_digit c ≡ false = grind (arith, nat_tests) in
+    rw (no_letter, no_digit, e) refl
+
+-- blanks are gaps, one by one
+pub blanks_gap : (cs : List ℕ) → IsGap cs (after_run is_blank cs)
+blanks_gap [] = record { reads = λ n ts h. h; fails = λ place h. h }
+blanks_gap (c ∷ cs) =
+    cond_both (is_blank c) (after_run is_blank cs) (c ∷ cs) (λ rest. IsGap (c ∷ cs) rest)
+    (λ e.
+    let more = blanks_gap cs in
+    let q = blank_class c e in
+    record { reads = λ n ts h. blank q (more.reads n ts h); fails = λ place h. past_blank q (more.fails place h) })
+    (λ _. record { reads = λ n ts h. h; fails = λ place h. h })
 
 line_means : (a b : ℕ) (cs : List ℕ) → class_of a ≡ class.Slash → b ≡ 47 → IsGap (a ∷ b ∷ cs) (after_run is_in_line cs)
 line_means a b cs q e = record {

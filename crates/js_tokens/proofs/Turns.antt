@@ -5,11 +5,12 @@ use Rattle.js_tokens.specs.declared.token.TokenKind.{TokenKind}
 use Rattle.js_tokens.specs.Lexes.{Reads, FirstBad}
 use Rattle.js_tokens.specs.Lexes.Reads.{done, token}
 use Rattle.js_tokens.specs.Lexes.FirstBad.{bad, past_token}
-use Rattle.js_tokens.specs.Cursor.{from, IsPlace}
+use Rattle.js_tokens.specs.Characters.{is_blank}
+use Rattle.js_tokens.specs.Cursor.{from, IsPlace, IsEnd}
 use Rattle.js_tokens.specs.Scan as scan
-use Rattle.js_tokens.specs.Scan.{Found, found}
+use Rattle.js_tokens.specs.Scan.{after_run, Found, found}
 use Rattle.js_tokens.proofs.Slices.{place_from}
-use Rattle.js_tokens.proofs.Fronts.{IsToken, Means, found_means}
+use Rattle.js_tokens.proofs.Fronts.{IsGap, IsToken, Means, blanks_gap, found_means}
 
 -- the tokens up to a place
 pub record SoFar (text : List ℕ) (place : ℕ) (list : List Token) : Type 0 where
@@ -24,6 +25,11 @@ pub at_gap : (text : List ℕ) (place next : ℕ) (list : List Token) → found 
 at_gap text place next list e p so =
     let gap = means text place (scan.Gap (from text next)) e in
     record { is_place = p; reads = λ ts h. so.reads ts (gap.reads (length text) ts h); fails = λ q h. so.fails q (gap.fails q h) }
+
+pub at_blanks : (text : List ℕ) (place next : ℕ) (list : List Token) → IsEnd text place (after_run is_blank (from text place)) next → SoFar text place list → SoFar text next list
+at_blanks text place next list e so =
+    let gap = subst (IsGap (from text place)) e.rest_is (blanks_gap (from text place)) in
+    record { is_place = e.place; reads = λ ts h. so.reads ts (gap.reads (length text) ts h); fails = λ q h. so.fails q (gap.fails q h) }
 
 token_reads : (text : List ℕ) (place next : ℕ) (k : TokenKind) (ts : List Token) → IsPlace text place → IsPlace text next → IsToken k (from text place) (from text next) → Reads (length text) (from text next) ts → Reads (length text) (from text place) (record { kind = k; from = place; to = next } ∷ ts)
 token_reads text place next k ts p q t h =

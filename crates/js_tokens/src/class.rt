@@ -25,6 +25,7 @@ pub enum Run {
     HexDigits,
     /// What goes on in a line.
     Line,
+    Blank,
 }
 
 pub fn is_line_end(c: char) -> bool
@@ -60,7 +61,7 @@ fn is_part(c: char) -> bool
 fn is_blank(c: char) -> bool
     ensures { result ≡ is_blank c }
 {
-    (c >= '\t' && c <= '\r') || c == ' '
+    c == ' ' || (c >= '\t' && c <= '\r')
 }
 
 fn begins_mark(c: char) -> bool
@@ -125,5 +126,6 @@ pub fn passes(run: Run, c: char) -> bool
         Run::Digits => is_digit(c),
         Run::HexDigits => is_hex_digit(c),
         Run::Line => !is_line_end(c),
+        Run::Blank => is_blank(c),
     }
 }

@@ -4,6 +4,8 @@ ghost use Rattle.js_tokens.specs.Lexes.{Lexes, Reads, IsFault};
 ghost use Rattle.js_tokens.specs.Cursor.{from};
 ghost use Rattle.js_tokens.specs.Pieces.{IsScanFault};
 
+use crate::class::Run;
+use crate::cursor::run_end;
 use crate::piece::{Piece, piece_at};
 use crate::token::{Token, TokenFault};
 use std::alloc::Global;
@@ -15,13 +17,15 @@ fn text_tokens(alloc: Global, text: &str) -> Result<Vec<Token>, TokenFault>
     let mut list = Vec::new(alloc);
     let mut place = 0;
     'text: loop {
-        match piece_at(text, place) {
+        // A run of blanks at once, so that no step is taken for each.
+        let from = run_end(text, place, Run::Blank);
+        match piece_at(text, from) {
             Piece::End => return Ok(list),
             Piece::Gap(next) => place = next,
             Piece::Token(kind, next) => {
                 list.push(Token {
                     kind,
-                    from: place,
+                    from,
                     to: next,
                 })?;
                 place = next;

@@ -92,7 +92,7 @@ fn push_units(units: &mut Vec<u16>, mode: Mode, c: char) -> Result<(), AllocErro
 fn string_units(alloc: Global, text: &str) -> Result<Vec<u16>, AllocError>
     ensures { IfOk result (λ v. v.items ≡ string_value Mode.Plain (chars text.now)) }
 {
-    let mut units = Vec::new(alloc);
+    let mut units = Vec::with_capacity(alloc, text.len())?;
     let mut mode = Mode::Plain;
     let mut place = 0;
     'units: while let Some((c, next)) = char_at(text, place) {
