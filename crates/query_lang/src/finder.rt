@@ -15,14 +15,13 @@ use page_tree::{NodeId, Page};
 use query_grammar::{Filter, Filters, ListFilter, Query, QueryStep, StepFilter};
 use query_text::first_filter;
 use query_walks::failed::{is_needed, mark_all_failed};
-use query_walks::hunt::hunt_all;
+use query_walks::hunt::hunt_in_order;
 use query_walks::nodes::test;
 use query_walks::once::{TriedFilters, behind, each_once};
-use query_walks::order::in_order;
 use std::alloc::Global;
 
 // The most units of a step's filters that are tried one by one.
-const LONG: usize = 256;
+const LONG: usize = 32;
 
 // Keeps a node if it passes.
 fn keep_one(
@@ -211,8 +210,7 @@ fn take_step(
         (in_order (nodes page.now) (root page.now owner) owner
         (flat_map (hunted (nodes page.now) (root page.now owner) step.now.hunter) starts.now))) }
 {
-    let found = hunt_all(alloc, page, owner, &step.hunter, starts)?;
-    let list = in_order(alloc, page, owner, &found)?;
+    let list = hunt_in_order(alloc, page, owner, &step.hunter, starts)?;
     filter_all(alloc, page, focus, &step.filters, list)
 }
 

@@ -18,6 +18,7 @@ use Rattle.query_grammar.specs.Queries.{is_lower, in_word, in_value, goes_on, Ru
 use Rattle.query_grammar.specs.Machine.{State, Between, Hunt, Inside, Sift, Attribute, AttributeWord, AttributeValue, Keyword, ForId, ForChild, ForNext, FilterRole, ForClass, ForName, ForKind, with, between, keyword_of, keyword_or, fits, step, some_steps, done, begin, goes}
 use Rattle.query_text.specs.Runs.{is_space}
 use Rattle.query_text.specs.Faults.{IsQueryFault}
+use Rattle.query_text.specs.Again.{AreAlike, none_alike, one_alike, StandAlike}
 use Rattle.query_text.specs.Reads.{is_first, IsRunAt, IsWordAt, IsNameAt, IsHunterAt, IsFilterBehind, IsFilterAt, AreFiltersAt, StandFilters, HasNone, Refuses, HasRoom}
 use Rattle.query_grammar.proofs.Truths.{same_number, other_number, both_ways, not_false, or_split}
 use Rattle.query_grammar.proofs.Keywords.{keyword_is}
@@ -39,6 +40,10 @@ word_stops (a_word h run) = run_stops run
 filters_more : {us vs rest : List ℕ} {fs : List StepFilter} {f : StepFilter} → SpellsFilters fs us vs → SpellsFilter f vs rest → SpellsFilters (fs ++ f ∷ []) us rest
 filters_more no_filter g = one_filter g no_filter
 filters_more (one_filter h others) g = one_filter h (filters_more others g)
+
+filters_also : (f : StepFilter) {us vs rest : List ℕ} → AreAlike f vs rest → (fs : List StepFilter) → SpellsFilters fs us vs → (gs : List StepFilter) × SpellsFilters gs us rest
+filters_also f none_alike fs h = (fs, h)
+filters_also f (one_alike before one) fs h = let all = filters_also f before fs h in (all.0 ++ f ∷ [], filters_more (all.1) one)
 
 nothing_in : (qs : List Step) → length qs ≡ 0 → qs ≡ []
 nothing_in [] e = refl
@@ -331,6 +336,14 @@ module _ (us : List ℕ) where
   filters_further at f place after so_far g =
       record { order = omega (arith, so_far.order, g.later); inside = g.inside; filters = so_far.filters ++ f ∷ []; spelled = filters_more so_far.spelled g.spelled }
 
+  -- and those like it that stand behind it
+  pub filters_alike : (at : ℕ) (f : StepFilter) (place next after : ℕ) → FiltersSoFar at place → IsFilterAt us place f next → ((g : StepFilter) → SpellsFilter g (drop place us) (drop next us) → StandAlike us g next after) → FiltersSoFar at after
+  filters_alike at f place next after so_far g all =
+      let more = filters_further at f place next so_far g in
+      let stand = all f g.spelled in
+      let others = filters_also f stand.alike more.filters more.spelled in
+      record { order = omega (arith, more.order, stand.order); inside = stand.inside; filters = others.0; spelled = others.1 }
+
   pub filters_done : (at : ℕ) (place : ℕ) → FiltersSoFar at place → goes_on is_mark (drop place us) ≡ false → StandFilters us at place
   filters_done at place so_far e = (so_far.filters, record { order = so_far.order; inside = so_far.inside; spelled = so_far.spelled; all = e })
 
@@ -482,6 +495,10 @@ module _ (us : List ℕ) (all : AreFilters us) where
   pub first_read : (r : Result (StepFilter × ℕ) ℕ) (v : StepFilter × ℕ) → r ≡ Ok v → IsReadAt r → IsFirst us v.0 v.1
   first_read (Ok w) v is h = subst (λ x. IsFirst us x.0 x.1) (same_ok w v is) (first_is us w.0 w.1 all h.later h.inside h.spelled)
   first_read (Err e) v is h = absurd (ok_err v e (sym is))
+
+  pub first_spelled : (r : Result (StepFilter × ℕ) ℕ) (v : StepFilter × ℕ) → r ≡ Ok v → IsReadAt r → SpellsFilter v.0 us (drop v.1 us)
+  first_spelled (Ok w) v is h = subst (λ x. SpellsFilter x.0 us (drop x.1 us)) (same_ok w v is) h.spelled
+  first_spelled (Err e) v is h = absurd (ok_err v e (sym is))
 
   pub none_bad : (r : Result (StepFilter × ℕ) ℕ) (e : ℕ) → r ≡ Err e → IsReadAt r → ⊥
   none_bad (Ok w) e is h = ok_err w e is

@@ -3,6 +3,7 @@
 //! Which units spell which query is said by `query_grammar`.
 #![tactic(auto)]
 
+mod again;
 mod parts;
 mod read;
 
@@ -55,4 +56,5 @@ impl<T: Drop> From<AllocFailed<T>> for QueryFault {
     }
 }
 
+pub use again::alike_end;
 pub use read::{first_filter, read_query};

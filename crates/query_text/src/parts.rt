@@ -36,7 +36,8 @@ fn in_name(unit: u16) -> bool
     matches!(unit, 0x61..=0x7A | 0x30..=0x39)
 }
 
-fn in_word(unit: u16) -> bool
+/// Whether a unit goes on in a word.
+pub fn in_word(unit: u16) -> bool
     ensures { result ≡ in_word unit }
 {
     matches!(unit, 0x61..=0x7A | 0x41..=0x5A | 0x30..=0x39 | 0x5F | 0x2D)

@@ -5,7 +5,7 @@ ghost use Rattle.query_text.specs.declared.QueryFault.TheVariants as fault;
 ghost use Rattle.query_grammar.specs.declared.query.Hunter.{Hunter as Found};
 ghost use Rattle.query_grammar.specs.declared.query.StepFilter.{StepFilter as Sifter};
 ghost use Rattle.query_grammar.specs.Steps.{Step};
-ghost use Rattle.query_grammar.specs.Queries.{goes_on, is_mark, QuerySpells};
+ghost use Rattle.query_grammar.specs.Queries.{goes_on, is_mark, SpellsFilter, QuerySpells};
 ghost use Rattle.query_grammar.specs.Machine.{Between, Inside, Attribute, Keyword};
 ghost use Rattle.query_text.specs.Runs.{is_space};
 ghost use Rattle.query_text.specs.Faults.{IsQueryFault};
@@ -13,6 +13,7 @@ ghost use Rattle.query_grammar.specs.Spelled.{filters_of, AreFilters, IsFirst};
 ghost use Rattle.query_text.specs.Reads.{IsHunterAt, IsFilterBehind, IsFilterAt, AreFiltersAt, StandFilters, Refuses, HasRoom};
 
 use super::QueryFault;
+use crate::again::alike_end;
 use crate::parts::{Run, fits, keyword_of, name_at, part_at, part_of, run_end, stands, word_at};
 use code_units::Text;
 use query_grammar::{Filter, Filters, Hunter, Query, QueryStep, StepFilter};
@@ -199,7 +200,7 @@ fn filters_end(units: &[u16], at: usize) -> Result<usize, usize>
             return Ok(place);
         }
         let (_, next) = filter_at(units, place)?;
-        place = next;
+        place = alike_end(units, place, next);
     }
     Ok(place)
 }
@@ -276,7 +277,8 @@ pub fn read_query(alloc: Global, text: &Text) -> Result<Query, QueryFault>
 /// The first of the filters that the units spell, and the place behind it.
 pub fn first_filter(units: &[u16]) -> Option<(StepFilter<'_>, usize)>
     requires { AreFilters units.now }
-    ensures { MatchOption result (filters_of units.now ≡ []) (λ r. IsFirst units.now r.0 r.1) }
+    ensures first { MatchOption result (filters_of units.now ≡ []) (λ r. IsFirst units.now r.0 r.1) }
+    ensures spelled { IfSome result (λ r. SpellsFilter r.0 units.now (drop r.1 units.now)) }
 {
     if units.is_empty() {
         return None;

@@ -1,9 +1,9 @@
 -- Filters that nodes fail first.
 use Rattle.std.proofs.Common.{◌≡◌, ℕ, zero, suc, ◌+◌, ◌<◌, ◌≤◌, List, [], ◌∷◌, ◌++◌, Bool, true, false, not, ◌||◌, refl, sym, ap, ◌∙◌, length, take, drop, get_or, cond, arith, eqb, eqb-true, Option, ⊎_elim}
-use Rattle.std.specs.Prelude.{set}
+use Rattle.std.specs.Prelude.{set, replicate}
 use Rattle.std.specs.List.{filter, position_or_len}
 use Rattle.std.proofs.lemmas.Bool.{or_cases, cases_eq}
-use Rattle.std.proofs.lemmas.List.{at_drop_more, at_drop_all, take_more, get_or-set_same, get_or-set_other}
+use Rattle.std.proofs.lemmas.List.{at_drop_more, at_drop_all, take_more, get_or-set_same, get_or-set_other, get_or-replicate}
 use Rattle.page_tree.specs.Entries.{Entry}
 use Rattle.query_grammar.specs.declared.query.StepFilter.{StepFilter}
 use Rattle.query_grammar.specs.declared.query.StepFilter.TheVariants as kind
@@ -70,6 +70,10 @@ module _ {A : Type 0} (p : A → Bool) where
       by_test : (b : Bool) → position_or_len p ys ≤ length ys → cond (not b) (1 + position_or_len p ys) 0 ≤ length (y ∷ ys)
       by_test true more = omega arith
       by_test false more = omega (arith, more)
+
+  -- where all places are marked, that of the first one is
+  pub marked_all : (xs : List A) (marks : List Bool) → marks ≡ replicate (length xs + 1) true → get_or marks (position_or_len p xs) false ≡ true
+  marked_all xs marks all = ap (λ l. get_or l (position_or_len p xs) false) all ∙ get_or-replicate (length xs + 1) (position_or_len p xs) true false (let inside = position_within xs in omega (arith, inside))
 
 -- ## Marked places
 

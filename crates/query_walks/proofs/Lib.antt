@@ -5,6 +5,7 @@ pub mod FirstFailed
 pub mod Found
 pub mod Marked
 pub mod Members
+pub mod OneStart
 pub mod Ordered
 pub mod Rising
 pub mod Siblings

@@ -85,18 +85,16 @@ pub in_order_nodes : (p : Page) (o : Owner) → is_owner o ≡ true → (ns list
 in_order_nodes p o own ns list e = subst (λ l. AreNodes p l) (sym e) (ordered_nodes p o own ns)
 
 -- the order goes by what is found of the owner's trees
-same_order : (p : Page) (o : Owner) (ns ms : List ℕ) → HaveSame p o ns ms → in_order (nodes p) (root p o) o ns ≡ in_order (nodes p) (root p o) o ms
+pub same_order : (p : Page) (o : Owner) (ns ms : List ℕ) → HaveSame p o ns ms → in_order (nodes p) (root p o) o ns ≡ in_order (nodes p) (root p o) o ms
 same_order p o ns ms h = same_filter (has_number ns) (has_number ms) (document (nodes p) (root p o) o) h
 
 -- what a step finds
-pub step_same : (p : Page) (o : Owner) (focus : Option ℕ) (h : Hunter) (fs : List StepFilter) (s : Step) (starts found list : List ℕ) → h ≡ s.hunter → fs ≡ s.filters →
-    HaveSame p o found (flat_map (hunted (nodes p) (root p o) h) starts) → list ≡ in_order (nodes p) (root p o) o found →
+pub step_same : (p : Page) (o : Owner) (focus : Option ℕ) (h : Hunter) (fs : List StepFilter) (s : Step) (starts list : List ℕ) → h ≡ s.hunter → fs ≡ s.filters →
+    list ≡ in_order (nodes p) (root p o) o (flat_map (hunted (nodes p) (root p o) h) starts) →
     all_filtered (nodes p) focus fs list ≡ all_filtered (nodes p) focus s.filters (in_order (nodes p) (root p o) o (flat_map (hunted (nodes p) (root p o) s.hunter) starts))
-step_same p o focus h fs s starts found list eh ef same el =
+step_same p o focus h fs s starts list eh ef el =
     ap (λ gs. all_filtered (nodes p) focus gs list) ef
-    ∙ ap (all_filtered (nodes p) focus s.filters) (el
-    ∙ same_order p o found (flat_map (hunted (nodes p) (root p o) h) starts) same
-    ∙ ap (λ g. in_order (nodes p) (root p o) o (flat_map (hunted (nodes p) (root p o) g) starts)) eh)
+    ∙ ap (all_filtered (nodes p) focus s.filters) (el ∙ ap (λ g. in_order (nodes p) (root p o) o (flat_map (hunted (nodes p) (root p o) g) starts)) eh)
 
 -- ## Filters
 

@@ -1,8 +1,8 @@
 -- Filters that keep all nodes are left out.
-use Rattle.std.proofs.Common.{◌≡◌, ℕ, zero, suc, ◌+◌, ◌*◌, ◌-◌, ◌<◌, ◌≤◌, List, [], ◌∷◌, ◌++◌, append-nil, Bool, true, false, not, refl, ap, sym, ◌∙◌, subst, cond, arith, ltb-false, ⊎_elim, Option, length, length-drop, map, drop, take, take-append-drop}
-use Rattle.std.specs.Prelude.{◌==◌, ◌%◌, ◌/◌, min, nat_lt, codes}
+use Rattle.std.proofs.Common.{◌≡◌, ℕ, zero, suc, ◌+◌, ◌*◌, ◌-◌, ◌<◌, ◌≤◌, List, [], ◌∷◌, ◌++◌, append-nil, Bool, true, false, not, refl, ap, sym, ◌∙◌, subst, cond, arith, ltb-false, ⊎_elim, Option, length, length-drop, map, drop, take}
+use Rattle.std.specs.Prelude.{◌==◌, ◌%◌, ◌/◌, min, nat_lt}
 use Rattle.std.specs.List.{filter, list_any, enumerate_from}
-use Rattle.std.specs.Str.{bytes_eq, byte}
+use Rattle.std.specs.Str.{bytes_eq}
 use Rattle.std.specs.Cmp.Lexicographic.{bytes_decides}
 use Rattle.std.proofs.lemmas.Bool.{or_cases}
 use Rattle.std.proofs.lemmas.List.Concat.{flat_map-append}
@@ -14,14 +14,14 @@ use Rattle.query_grammar.specs.declared.query.StepFilter.{StepFilter}
 use Rattle.query_grammar.specs.declared.query.StepFilter.TheVariants as kind
 use Rattle.query_grammar.specs.Filters.{Look}
 use Rattle.query_grammar.specs.Finds.{has_number, passes, at_places, filtered, all_filtered}
-use Rattle.query_grammar.specs.Queries.{SpellsFilter, by_keyword, key_first}
 use Rattle.query_grammar.specs.Spelled.{filters_of, AreFilters, IsFirst}
 use Rattle.query_grammar.proofs.Truths.{no_true, not_false, same_number}
 use Rattle.query_grammar.proofs.Numbers.{kept_is}
 use Rattle.query_grammar.proofs.Kept.{filtered_is, all_filtered_is}
-use Rattle.query_grammar.proofs.Spelled.{first_is}
+use Rattle.query_grammar.proofs.Spelled.{first_filter}
 use Rattle.query_walks.specs.Classes.{class_word, class_words}
-use Rattle.query_walks.specs.Thinned.{KeepSame, most_left, is_tried, classes_after, seen_after}
+use Rattle.query_text.specs.Again.{AreAlike, none_alike, one_alike, StandAlike}
+use Rattle.query_walks.specs.Thinned.{KeepSame, LeavesSame, keeps_again, most_left, is_tried, classes_after, seen_after}
 use Rattle.query_walks.proofs.FirstFailed.{all_pass, kept_passes}
 
 -- ## How many are left
@@ -174,6 +174,56 @@ module _ (look : ℕ → Look) (focus : Option ℕ) where
       by_test false = pass_more f seen us ns are pass
   pass_after (kind.List f) seen us ns are pass = pass_still (kind.List f) seen ns pass
 
+-- ## Filters that stand again
+
+not_true : (b : Bool) → not b ≡ true → b ≡ false
+not_true true h = sym h
+not_true false h = refl
+
+module _ (look : ℕ → Look) (focus : Option ℕ) where
+  again_keeps : (f : StepFilter) (most : ℕ) (ns : List ℕ) → keeps_again f most ≡ true → length (filtered look focus f ns) ≤ most → filtered look focus f (filtered look focus f ns) ≡ filtered look focus f ns
+  again_keeps (kind.Node f) most ns h le = all_pass (passes look focus f) (filter (passes look focus f) ns) (λ x there. kept_passes (passes look focus f) ns x there)
+  again_keeps (kind.List on_list.First) most ns h le = first_stays (take 1 ns) (one_stays most (take 1 ns) le (not_true (nat_lt 1 most) h))
+  again_keeps (kind.List on_list.Rest) most ns h le = absurd (no_true h)
+  again_keeps (kind.List on_list.Even) most ns h le = even_stays (at_places 0 ns) (one_stays most (at_places 0 ns) le (not_true (nat_lt 1 most) h))
+  again_keeps (kind.List on_list.Odd) most ns h le = absurd (no_true h)
+
+-- filters that are left where those alike are not
+record AlikeLeft (f : StepFilter) (us rest : List ℕ) : Type 0 where
+  filters : AreFilters rest
+  same : (look : ℕ → Look) (focus : Option ℕ) (ns : List ℕ) → filtered look focus f ns ≡ ns → all_filtered look focus (filters_of rest) ns ≡ all_filtered look focus (filters_of us) ns
+
+alike_left : (f : StepFilter) {us rest : List ℕ} → AreAlike f us rest → AreFilters us → AlikeLeft f us rest
+alike_left f none_alike are = record { filters = are; same = λ look focus ns h. refl }
+alike_left f (one_alike {us = us} {vs = vs} {rest = rest} before one) are =
+    let some = alike_left f before are in
+    let next = first_filter vs rest f some.filters one in
+    record {
+      filters = next.1;
+      same = λ look focus ns h.
+          ap (λ l. all_filtered look focus (filters_of rest) l) (sym h)
+          ∙ ap (λ fs. all_filtered look focus fs ns) (sym (next.0))
+          ∙ some.same look focus ns h;
+    }
+
+module _ (us : List ℕ) (f : StepFilter) (end most : ℕ) (left : List ℕ) (is : IsFirst us f end) where
+  pub leaves_alike : (to : ℕ) → StandAlike us f end to → keeps_again f most ≡ true → left ≡ drop to us → LeavesSame us f most left
+  leaves_alike to stand again e =
+      let some = alike_left f stand.alike is.others in
+      subst (LeavesSame us f most) (sym e) (record {
+        filters = some.filters;
+        fewer = (let later = is.later in let order = stand.order in let inside = stand.inside in omega (arith, later, order, inside, length-drop to us));
+        same = λ look focus ns le. some.same look focus (filtered look focus f ns) (again_keeps look focus f most ns again le) ∙ ap (λ fs. all_filtered look focus fs ns) (sym is.filters);
+      })
+
+  pub leaves_others : left ≡ drop end us → LeavesSame us f most left
+  leaves_others e =
+      subst (LeavesSame us f most) (sym e) (record {
+        filters = is.others;
+        fewer = (let later = is.later in let inside = is.inside in omega (arith, later, inside, length-drop end us));
+        same = λ look focus ns le. ap (λ fs. all_filtered look focus fs ns) (sym is.filters);
+      })
+
 -- ## The filters that are kept
 
 -- of the filters that units spell the rest is left, and those kept, with these classes, leave of at most so many nodes at most so many, which pass those seen
@@ -216,7 +266,7 @@ module _ (classes : List (List ℕ)) (kept : List StepFilter) (classed : classes
       by_test false = with_word (kind.Node (on_node.Class w))
   classed_after f most seen us = same_words f (is_tried f most classes seen us) refl
 
-module _ (nodes : ℕ) (units rest : List ℕ) (classes seen : List (List ℕ)) (kept : List StepFilter) (most : ℕ) (f : StepFilter) (end : ℕ) (t : Thins nodes units rest classes seen kept most) (is : IsFirst rest f end) where
+module _ (nodes : ℕ) (units rest : List ℕ) (classes seen : List (List ℕ)) (kept : List StepFilter) (most : ℕ) (f : StepFilter) (end : ℕ) (left : List ℕ) (t : Thins nodes units rest classes seen kept most) (is : IsFirst rest f end) (s : LeavesSame rest f (most_left f most) left) where
   abbrev kept_after : List StepFilter
   kept_after = cond (is_tried f most classes seen (take end rest)) (kept ++ f ∷ []) kept
 
@@ -225,30 +275,29 @@ module _ (nodes : ℕ) (units rest : List ℕ) (classes seen : List (List ℕ)) 
       (keeps_all look focus f most classes seen (take end rest) (all_filtered look focus kept ns) is.alone (t.few look focus ns le)
       (subst (λ l. HaveAll look focus l (all_filtered look focus kept ns)) (sym t.classed) (class_kept look focus kept ns)) (t.passed look focus ns le))
 
-  thins_next : Thins nodes units (drop end rest) (classes_after f classes) (seen_after f seen (take end rest)) kept_after (most_left f most)
+  thins_next : Thins nodes units left (classes_after f classes) (seen_after f seen (take end rest)) kept_after (most_left f most)
   thins_next = record {
-    filters = is.others;
+    filters = s.filters;
     classed = sym (classed_after classes kept t.classed f most seen (take end rest));
     few = λ look focus ns le. subst (λ l. length l ≤ most_left f most) (sym (leaves look focus ns le)) (few_left look focus f (all_filtered look focus kept ns) most (t.few look focus ns le));
     passed = λ look focus ns le. subst (λ l. Pass look focus (seen_after f seen (take end rest)) l) (sym (leaves look focus ns le))
         (pass_after look focus f seen (take end rest) (all_filtered look focus kept ns) is.alone (t.passed look focus ns le));
     same = λ look focus ns le.
-        ap (λ l. all_filtered look focus (filters_of (drop end rest)) l) (leaves look focus ns le)
-        ∙ ap (λ fs. all_filtered look focus fs (all_filtered look focus kept ns)) (sym is.filters)
+        ap (λ l. all_filtered look focus (filters_of left) l) (leaves look focus ns le)
+        ∙ s.same look focus (all_filtered look focus kept ns) (few_left look focus f (all_filtered look focus kept ns) most (t.few look focus ns le))
         ∙ t.same look focus ns le;
   }
 
 pub thins_more : (nodes : ℕ) (units rest : List ℕ) (classes seen : List (List ℕ)) (kept : List StepFilter) (most : ℕ) (f : StepFilter) (end : ℕ) (left : List ℕ) (more now : List (List ℕ)) (b : Bool) (longer : List StepFilter) (fewer : ℕ) →
-    Thins nodes units rest classes seen kept most → IsFirst rest f end → left ≡ drop end rest → more ≡ classes_after f classes → now ≡ seen_after f seen (take end rest) → b ≡ is_tried f most classes seen (take end rest) → longer ≡ cond b (kept ++ f ∷ []) kept → fewer ≡ most_left f most →
+    Thins nodes units rest classes seen kept most → IsFirst rest f end → LeavesSame rest f fewer left → more ≡ classes_after f classes → now ≡ seen_after f seen (take end rest) → b ≡ is_tried f most classes seen (take end rest) → longer ≡ cond b (kept ++ f ∷ []) kept → fewer ≡ most_left f most →
     Thins nodes units left more now longer fewer
-thins_more nodes units rest classes seen kept most f end left more now b longer fewer t is el em en eb ek ef =
+thins_more nodes units rest classes seen kept most f end left more now b longer fewer t is s em en eb ek ef =
     let us = take end rest in
-    subst (λ l. Thins nodes units l more now longer fewer) (sym el)
-    (subst (λ l. Thins nodes units (drop end rest) l now longer fewer) (sym em)
-    (subst (λ l. Thins nodes units (drop end rest) (classes_after f classes) l longer fewer) (sym en)
-    (subst (λ l. Thins nodes units (drop end rest) (classes_after f classes) (seen_after f seen us) l fewer) (sym (ek ∙ ap (λ c. cond c (kept ++ f ∷ []) kept) eb))
-    (subst (λ l. Thins nodes units (drop end rest) (classes_after f classes) (seen_after f seen us) (cond (is_tried f most classes seen us) (kept ++ f ∷ []) kept) l) (sym ef)
-    (thins_next nodes units rest classes seen kept most f end t is)))))
+    subst (λ l. Thins nodes units left l now longer fewer) (sym em)
+    (subst (λ l. Thins nodes units left (classes_after f classes) l longer fewer) (sym en)
+    (subst (λ l. Thins nodes units left (classes_after f classes) (seen_after f seen us) l fewer) (sym (ek ∙ ap (λ c. cond c (kept ++ f ∷ []) kept) eb))
+    (subst (λ l. Thins nodes units left (classes_after f classes) (seen_after f seen us) (cond (is_tried f most classes seen us) (kept ++ f ∷ []) kept) l) (sym ef)
+    (thins_next nodes units rest classes seen kept most f end left t is (subst (λ m. LeavesSame rest f m left) ef s)))))
 
 -- no filter is left, or no node
 pub thins_done : (nodes : ℕ) (units rest : List ℕ) (classes seen : List (List ℕ)) (kept : List StepFilter) (most : ℕ) → Thins nodes units rest classes seen kept most → filters_of rest ≡ [] → KeepSame nodes (filters_of units) kept
@@ -258,16 +307,6 @@ pub thins_out : (nodes : ℕ) (units rest : List ℕ) (classes seen : List (List
 thins_out nodes units rest classes seen kept most t e look focus ns le =
     sym (nothing_left look focus (filters_of rest) (all_filtered look focus kept ns) (subst (λ m. length (all_filtered look focus kept ns) ≤ m) e (t.few look focus ns le)))
     ∙ t.same look focus ns le
-
--- ## `:first`
-
-spelled_so : (us : List ℕ) → take 6 us ≡ codes ":first" → SpellsFilter (kind.List on_list.First) us (drop 6 us)
-spelled_so us e =
-    let is : byte ":" ∷ (codes "first" ++ drop 6 us) ≡ us = ap (λ l. l ++ drop 6 us) (sym e) ∙ take-append-drop 6 us in
-    subst (λ l. SpellsFilter (kind.List on_list.First) l (drop 6 us)) is (by_keyword key_first)
-
-pub first_spelled : (us : List ℕ) → AreFilters us → bytes_eq (take 6 us) (codes ":first") ≡ true → 6 ≤ length us → IsFirst us (kind.List on_list.First) 6
-first_spelled us are h le = first_is us (kind.List on_list.First) 6 are (omega arith) le (spelled_so us ((bytes_decides (take 6 us) (codes ":first")).0 h))
 
 -- ## One filter after the other
 

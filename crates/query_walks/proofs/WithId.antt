@@ -56,19 +56,19 @@ module _ (k : List Entry) (s : IsSound k) where
           (λ a. or_right (eqb n x) (has x ks || has x ts) (⊎_elim (λ b. or_left (has x ks) (has x ts) b) (λ b. absurd (no_true b)) (or_cases (has x ks) false a)))
           (or_cases (eqb n x) (has x ks || false) g2)
 
-  within_through : (x q n : ℕ) → has_number (within k n) q ≡ true → has_number (within k q) x ≡ true → has_number (within k n) x ≡ true
+  pub within_through : (x q n : ℕ) → has_number (within k n) q ≡ true → has_number (within k q) x ≡ true → has_number (within k n) x ≡ true
   within_through x q n h g = has_numbers (tree k n) x ∙ through x q (n ∷ []) (tree k n) (shows_tree k s n) (sym (has_numbers (tree k n) q) ∙ h) (sym (has_numbers (tree k q) x) ∙ g)
 
-  in_itself : (n : ℕ) → has_number (within k n) n ≡ true
+  pub in_itself : (n : ℕ) → has_number (within k n) n ≡ true
   in_itself n = has_numbers (tree k n) n ∙ has_itself k s n
 
-  child_within : (x q : ℕ) → (at k x).parent ≡ Some q → has_number (below k q) x ≡ true
+  pub child_within : (x q : ℕ) → (at k x).parent ≡ Some q → has_number (below k q) x ≡ true
   child_within x q u = to_piece (within k) (at k q).children x x (has_listed x (at k q).children ∙ s.upward x q u) (in_itself x)
 
-  split : (n q : ℕ) → has_number (within k n) q ≡ true → (eqb q n ≡ true) ⊎ (has_number (below k n) q ≡ true)
+  pub split : (n q : ℕ) → has_number (within k n) q ≡ true → (eqb q n ≡ true) ⊎ (has_number (below k n) q ≡ true)
   split n q h = or_cases (eqb q n) (has_number (below k n) q) (sym (ap (λ l. has_number l q) (within_is k s n)) ∙ h)
 
-  join : (n q : ℕ) → has_number (below k n) q ≡ true → has_number (within k n) q ≡ true
+  pub join : (n q : ℕ) → has_number (below k n) q ≡ true → has_number (within k n) q ≡ true
   join n q h = ap (λ l. has_number l q) (within_is k s n) ∙ or_right (eqb q n) (has_number (below k n) q) h
 
   -- a node is below another if its parent is that one or below it

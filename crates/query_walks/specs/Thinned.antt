@@ -1,5 +1,5 @@
 -- Filters that are left out.
-use Rattle.std.specs.Prelude.{◌≡◌, ℕ, ◌≤◌, ◌-◌, ◌/◌, Bool, true, not, List, [], ◌∷◌, ◌++◌, length, min, nat_lt, if◌then◌else◌, Option}
+use Rattle.std.specs.Prelude.{◌≡◌, ℕ, ◌<◌, ◌≤◌, ◌-◌, ◌/◌, Bool, true, false, not, List, [], ◌∷◌, ◌++◌, length, min, nat_lt, if◌then◌else◌, Option}
 use Rattle.std.specs.List.{list_any}
 use Rattle.std.specs.Str.{bytes_eq}
 use Rattle.query_grammar.specs.declared.query.Filter.TheVariants as on_node
@@ -7,7 +7,8 @@ use Rattle.query_grammar.specs.declared.query.ListFilter.TheVariants as on_list
 use Rattle.query_grammar.specs.declared.query.StepFilter.{StepFilter}
 use Rattle.query_grammar.specs.declared.query.StepFilter.TheVariants as kind
 use Rattle.query_grammar.specs.Filters.{Look}
-use Rattle.query_grammar.specs.Finds.{all_filtered}
+use Rattle.query_grammar.specs.Finds.{filtered, all_filtered}
+use Rattle.query_grammar.specs.Spelled.{filters_of, AreFilters}
 
 -- filters keep the same nodes as others, of every list of at most so many
 abbrev pub KeepSame : ℕ → List StepFilter → List StepFilter → Type 0
@@ -20,6 +21,20 @@ most_left (kind.List on_list.First) most = min most 1
 most_left (kind.List on_list.Rest) most = most - 1
 most_left (kind.List on_list.Even) most = most - most / 2
 most_left (kind.List on_list.Odd) most = most / 2
+
+-- whether a filter keeps all that it left, where these are at most so many
+abbrev pub keeps_again : StepFilter → ℕ → Bool
+keeps_again (kind.Node f) most = true
+keeps_again (kind.List on_list.First) most = not (nat_lt 1 most)
+keeps_again (kind.List on_list.Rest) most = false
+keeps_again (kind.List on_list.Even) most = not (nat_lt 1 most)
+keeps_again (kind.List on_list.Odd) most = false
+
+-- the filters of the units that are left keep of what a filter leaves, where that is at most so many, the same nodes as all filters of the units
+pub record LeavesSame (us : List ℕ) (f : StepFilter) (most : ℕ) (left : List ℕ) : Type 0 where
+  pub filters : AreFilters left
+  pub fewer : length left < length us
+  pub same : (look : ℕ → Look) (focus : Option ℕ) (ns : List ℕ) → length (filtered look focus f ns) ≤ most → all_filtered look focus (filters_of left) (filtered look focus f ns) ≡ all_filtered look focus (filters_of us) ns
 
 -- whether a filter is to be tried: one on a class if the word is new, another one on nodes if the units that spell it are, and one that keeps the first node if there may be others
 abbrev pub is_tried : StepFilter → ℕ → List (List ℕ) → List (List ℕ) → List ℕ → Bool

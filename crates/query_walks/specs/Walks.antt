@@ -4,6 +4,7 @@ use Rattle.std.specs.List.{filter, flat_map, list_any}
 use Rattle.code_units.specs.declared.owner.Owner.{Owner}
 use Rattle.page_tree.specs.declared.page.Page.{Page}
 use Rattle.page_tree.specs.Entries.{Entry, at}
+use Rattle.page_tree.specs.Owners.{same_owner}
 use Rattle.page_tree.specs.Pages.{nodes, root}
 use Rattle.tree_ops.specs.Trees.{is_number}
 use Rattle.query_grammar.specs.declared.query.Hunter.{Hunter}
@@ -61,6 +62,11 @@ HaveSame p o ns ms = (n : ℕ) → has_number (document (nodes p) (root p o) o) 
 -- what a hunter finds in the trees of an owner, in any order
 abbrev pub AreHuntedOf : Page → Owner → Hunter → List ℕ → List ℕ → Type 0
 AreHuntedOf p o h starts ns = HaveSame p o ns (flat_map (hunted (nodes p) (root p o) h) starts)
+
+-- the nodes are a single one, and the owner's
+abbrev pub is_one_of : List Entry → Owner → List ℕ → Bool
+is_one_of k o (n ∷ []) = same_owner (at k n).owner o
+is_one_of k o _ = false
 
 -- one of the starts that have siblings
 abbrev pub is_start : Option ℕ → List ℕ → ℕ → Bool

@@ -1,5 +1,6 @@
-//! Many filters on a list of nodes: which of them keep a node out. The class of a node is read once.
-ghost use Rattle.std.specs.Prelude.{◌≡◌, ◌<◌, ◌≤◌, ◌+◌, ◌||◌, ℕ, length, take, drop, map, true, false, not, get_or, set, IfOk, OnOk};
+//! Many filters on a list of nodes: which of them keep a node out. The class of a node is read once,
+//! and not again for nodes behind it that have the same.
+ghost use Rattle.std.specs.Prelude.{◌≡◌, ◌<◌, ◌≤◌, ◌+◌, ◌||◌, ℕ, length, take, drop, map, true, false, not, codes, get_or, set, IfOk, OnOk};
 ghost use Rattle.std.specs.List.{filter, list_any, position_or_len};
 ghost use Rattle.std.specs.Str.{bytes_eq};
 ghost use Rattle.page_tree.specs.Pages.{nodes};
@@ -17,6 +18,9 @@ use code_units::Memory;
 use page_tree::{NodeId, Page};
 use query_grammar::{Filter, StepFilter};
 use std::alloc::Global;
+
+// The most filters that are tried on each node one by one.
+const FEW: usize = 8;
 
 // Marks a place, and tells how many are left without a mark.
 fn mark(found: &mut Vec<bool>, place: usize, left: usize) -> usize
@@ -138,27 +142,93 @@ fn failed_at(
     filters.len()
 }
 
-// Marks the place of the first filter that a node fails.
-fn mark_failed<'a>(
+// Whether two nodes have the same class, or both have none.
+fn has_same_class(page: &Page, node: NodeId, other: NodeId) -> bool
+    requires node { node < length (nodes page.now) }
+    requires other { other < length (nodes page.now) }
+    ensures { result ≡ true → (look (nodes page.now) node).attribute (codes "class")
+        ≡ (look (nodes page.now) other).attribute (codes "class") }
+{
+    if node == other {
+        return true;
+    }
+    match (
+        page.attr_of_word(node, b"class"),
+        page.attr_of_word(other, b"class"),
+    ) {
+        (Some(classes), Some(others)) => *classes == *others,
+        (None, None) => true,
+        _ => false,
+    }
+}
+
+// Looks the words of a node's class up, if they are not the same as before, those of another node.
+fn look_up<'a>(
     alloc: Global,
     page: &'a Page,
-    focus: Option<NodeId>,
     node: NodeId,
-    filters: &'a TriedFilters<'a>,
-    failed: &mut Vec<bool>,
+    wanted: &Words<'a>,
+    before: NodeId,
+    found: &mut Vec<bool>,
 ) -> Result<(), Memory>
     requires node { node < length (nodes page.now) }
-    requires long { length failed.old.items ≡ length filters.now + 1 }
-    ensures { OnOk result (failed.new.items
-        ≡ set failed.old.items (failed_at (nodes page.now) focus filters.now node) true) }
+    requires before { before < length (nodes page.now) }
+    requires found { found.old.items ≡ map (has_class (look (nodes page.now) before)) wanted.now.keys }
+    ensures { OnOk result (found.new.items ≡ map (has_class (look (nodes page.now) node)) wanted.now.keys) }
 {
-    let found = found_classes(alloc, page, node, filters.classes())?;
-    failed[failed_at(page, focus, node, &found, filters.filters())] = true;
+    if has_same_class(page, before, node) {
+        return Ok(());
+    }
+    *found = found_classes(alloc, page, node, wanted)?;
     Ok(())
+}
+
+// Marks the place of the first filter that a node fails.
+fn mark_failed(
+    page: &Page,
+    focus: Option<NodeId>,
+    node: NodeId,
+    filters: &TriedFilters<'_>,
+    found: &[bool],
+    failed: &mut Vec<bool>,
+)
+    requires node { node < length (nodes page.now) }
+    requires found { found.now ≡ map (has_class (look (nodes page.now) node)) (class_words filters.now) }
+    requires long { length failed.old.items ≡ length filters.now + 1 }
+    ensures { failed.new.items ≡ set failed.old.items (failed_at (nodes page.now) focus filters.now node) true }
+{
+    failed[failed_at(page, focus, node, found, filters.filters())] = true;
+}
+
+// The marks of all nodes of a list, of which this one is the first.
+fn mark_each(
+    alloc: Global,
+    page: &Page,
+    focus: Option<NodeId>,
+    filters: &TriedFilters<'_>,
+    first: NodeId,
+    list: &[NodeId],
+) -> Result<Vec<bool>, Memory>
+    requires nodes { AreNodes page.now list.now }
+    requires first { first < length (nodes page.now) }
+    ensures long { IfOk result (λ failed. length failed.items ≡ length filters.now + 1) }
+    ensures marked { IfOk result (λ failed. (n : ℕ) → has_number list.now n ≡ true
+        → get_or failed.items (failed_at (nodes page.now) focus filters.now n) false ≡ true) }
+{
+    let mut failed = vec![in alloc; false; filters.filters().len() + 1]?;
+    let mut before = first;
+    let mut found = found_classes(alloc, &*page, first, filters.classes())?;
+    'each: for node in list {
+        look_up(alloc, &*page, *node, filters.classes(), before, &mut found)?;
+        before = *node;
+        mark_failed(page, focus, *node, filters, &found, &mut failed);
+    }
+    Ok(failed)
 }
 
 /// The places of filters of a step, and the place behind them, each with whether it is marked. That
 /// of the first filter that a node of a list fails is, or the place behind them where it fails none.
+/// Of a few filters all places are marked, and nothing is tried.
 pub fn mark_all_failed(
     alloc: Global,
     page: &Page,
@@ -171,11 +241,11 @@ pub fn mark_all_failed(
     ensures marked { IfOk result (λ failed. (n : ℕ) → has_number list.now n ≡ true
         → get_or failed.items (failed_at (nodes page.now) focus filters.now n) false ≡ true) }
 {
-    let mut failed = vec![in alloc; false; filters.filters().len() + 1]?;
-    'each: for node in list {
-        mark_failed(alloc, &*page, focus, *node, &*filters, &mut failed)?;
+    let count = filters.filters().len();
+    match list.first() {
+        Some(first) if count > FEW => mark_each(alloc, page, focus, filters, *first, list),
+        _ => Ok(vec![in alloc; true; count + 1]?),
     }
-    Ok(failed)
 }
 
 /// Whether a filter of a step is to be tried, where the places at which nodes fail first are marked:

@@ -1,4 +1,4 @@
-//! What hunters find.
+//! What hunters find, in document order.
 ghost use Rattle.std.specs.Prelude.{◌≡◌, ℕ, ◌<◌, ◌++◌, [], ◌∷◌, ◌&&◌, ◌||◌, not, true, false, if◌then◌else◌, length, OnOk, IfOk};
 ghost use Rattle.std.specs.List.{filter, flat_map, list_any};
 ghost use Rattle.code_units.specs.declared.owner.Owner.TheVariants as owners;
@@ -9,16 +9,17 @@ ghost use Rattle.tree_ops.specs.Trees.{is_number};
 ghost use Rattle.query_grammar.specs.declared.query.Hunter.TheVariants as hunter;
 ghost use Rattle.query_walks.specs.Nodes.{is_element};
 ghost use Rattle.page_tree.specs.Documents.{below, parent_within};
-ghost use Rattle.query_walks.specs.Finds.{is_tagged};
+ghost use Rattle.query_walks.specs.Finds.{is_tagged, hunted, in_order};
 ghost use Rattle.query_grammar.specs.Finds.{has_number};
-ghost use Rattle.query_walks.specs.Walks.{AreNodes, AreHunted, AreHuntedOf, MissesNone, takes, is_start, next_ones};
+ghost use Rattle.query_walks.specs.Walks.{AreNodes, AreHunted, AreHuntedOf, MissesNone, takes, is_one_of, is_start, next_ones};
 
 use crate::marks::{Marks, Risen};
 use crate::named::all_named;
 use crate::nodes::is_element;
+use crate::order::in_order;
 use crate::wanted::{Wanted, child_at};
 use code_units::{Memory, Owner, Text};
-use page_tree::{NodeId, Page, is_number};
+use page_tree::{NodeId, Page, is_number, same_owner};
 use query_grammar::Hunter;
 use std::alloc::Global;
 
@@ -258,9 +259,9 @@ fn hunt_in_widget(
     }
 }
 
-/// What a hunter finds from nodes of an owner, in any order. Nodes outside the owner's trees may be
-/// left out.
-pub fn hunt_all(
+// What a hunter finds from nodes of an owner, in any order. Nodes outside the owner's trees may be
+// left out.
+fn hunt_all(
     alloc: Global,
     page: &Page,
     owner: Owner,
@@ -276,4 +277,78 @@ pub fn hunt_all(
         Owner::Host => hunt_by_links(alloc, page, owner, hunter, starts),
         Owner::Widget(_) => hunt_in_widget(alloc, page, owner, hunter, starts),
     }
+}
+
+// Whether nodes are a single one, and the owner's.
+fn is_one_of(page: &Page, owner: Owner, list: &[NodeId]) -> bool
+    requires { AreNodes page.now list.now }
+    ensures { result ≡ is_one_of (nodes page.now) owner list.now }
+{
+    match list {
+        [node] => same_owner(page.owner(*node), owner),
+        _ => false,
+    }
+}
+
+// What a hunter finds from nodes of an owner, put in document order.
+fn hunt_and_order(
+    alloc: Global,
+    page: &Page,
+    owner: Owner,
+    hunter: &Hunter,
+    starts: &[NodeId],
+) -> Result<Vec<NodeId>, Memory>
+    requires owner { is_owner owner ≡ true }
+    requires nodes { AreNodes page.now starts.now }
+    ensures { IfOk result (λ list. list.items ≡ in_order (nodes page.now) (root page.now owner) owner
+        (flat_map (hunted (nodes page.now) (root page.now owner) hunter.now) starts.now)) }
+{
+    let found = hunt_all(alloc, page, owner, hunter, starts)?;
+    if is_one_of(page, owner, &found) {
+        return Ok(found);
+    }
+    in_order(alloc, page, owner, &found)
+}
+
+// The same from one node, where most hunters find in document order.
+fn hunt_from_one(
+    alloc: Global,
+    page: &Page,
+    owner: Owner,
+    hunter: &Hunter,
+    starts: &[NodeId],
+) -> Result<Vec<NodeId>, Memory>
+    requires owner { is_owner owner ≡ true }
+    requires nodes { AreNodes page.now starts.now }
+    requires one { is_one_of (nodes page.now) owner starts.now ≡ true }
+    ensures { IfOk result (λ list. list.items ≡ in_order (nodes page.now) (root page.now owner) owner
+        (flat_map (hunted (nodes page.now) (root page.now owner) hunter.now) starts.now)) }
+{
+    match hunter {
+        Hunter::Tag(tag) => all_below(alloc, page, &Wanted::Tagged(tag), starts),
+        Hunter::Child(tag) => all_children(alloc, page, &Wanted::Tagged(tag), starts),
+        Hunter::Children => all_children(alloc, page, &Wanted::Elements, starts),
+        Hunter::All => all_below(alloc, page, &Wanted::Elements, starts),
+        Hunter::Id(_) => hunt_and_order(alloc, page, owner, hunter, starts),
+        Hunter::Next(_) => hunt_and_order(alloc, page, owner, hunter, starts),
+    }
+}
+
+/// What a hunter finds from nodes of an owner, in document order and without repeats.
+pub fn hunt_in_order(
+    alloc: Global,
+    page: &Page,
+    owner: Owner,
+    hunter: &Hunter,
+    starts: &[NodeId],
+) -> Result<Vec<NodeId>, Memory>
+    requires owner { is_owner owner ≡ true }
+    requires nodes { AreNodes page.now starts.now }
+    ensures { IfOk result (λ list. list.items ≡ in_order (nodes page.now) (root page.now owner) owner
+        (flat_map (hunted (nodes page.now) (root page.now owner) hunter.now) starts.now)) }
+{
+    if is_one_of(page, owner, starts) {
+        return hunt_from_one(alloc, page, owner, hunter, starts);
+    }
+    hunt_and_order(alloc, page, owner, hunter, starts)
 }

@@ -3,6 +3,7 @@ ghost use Rattle.std.specs.Prelude.{◌≡◌, ◌==◌, ◌+◌, ◌<◌, ◌�
 ghost use Rattle.std.specs.List.{list_any, position_or_len};
 ghost use Rattle.std.specs.Str.{bytes_eq};
 ghost use Rattle.page_tree.specs.Pages.{nodes};
+ghost use Rattle.query_walks.specs.Finds.{is_tagged};
 ghost use Rattle.query_walks.specs.Nodes.{look, is_element, passes};
 ghost use Rattle.query_grammar.specs.Filters.{is_equal, has_tag, is_input, is_field, seen_value, seen, words, has_class};
 ghost use Rattle.query_grammar.specs.Finds.{has_focus};
@@ -22,10 +23,10 @@ pub fn is_element(page: &Page, node: NodeId) -> bool
     page.tag(node).is_some()
 }
 
-/// Whether a node has a tag.
-pub fn has_tag(page: &Page, node: NodeId, tag: &Text) -> bool
+/// Whether a node is an element with a tag.
+pub fn is_tagged(page: &Page, node: NodeId, tag: &Text) -> bool
     requires { node < length (nodes page.now) }
-    ensures { result ≡ has_tag (look (nodes page.now) node) tag.now }
+    ensures { result ≡ is_tagged (nodes page.now) tag.now node }
 {
     match page.tag(node) {
         Some(text) => *text == *tag,
@@ -33,7 +34,7 @@ pub fn has_tag(page: &Page, node: NodeId, tag: &Text) -> bool
     }
 }
 
-// The same of a tag that is an ASCII word.
+// Whether a node has a tag that is an ASCII word.
 fn has_word_tag(page: &Page, node: NodeId, tag: &[u8]) -> bool
     requires { node < length (nodes page.now) }
     ensures { result ≡ has_tag (look (nodes page.now) node) tag.now }

@@ -1,18 +1,17 @@
 //! The filters of a step without those that keep all nodes: one on nodes that stood before, and one
 //! that keeps the first node where there is no second one.
-ghost use Rattle.std.specs.Prelude.{◌≡◌, ◌≤◌, [], ◌∷◌, ◌++◌, length, take, drop, true, if◌then◌else◌, IfOk, OnOk, MatchOption};
-ghost use Rattle.query_grammar.specs.declared.query.ListFilter.TheVariants as on_list;
-ghost use Rattle.query_grammar.specs.declared.query.StepFilter.TheVariants as kind;
+ghost use Rattle.std.specs.Prelude.{◌≡◌, ◌≤◌, [], ◌∷◌, ◌++◌, length, take, drop, true, if◌then◌else◌, IfOk, OnOk};
+ghost use Rattle.query_grammar.specs.Queries.{SpellsFilter};
 ghost use Rattle.query_grammar.specs.Spelled.{filters_of, AreFilters, IsFirst};
 ghost use Rattle.query_walks.specs.Classes.{class_words};
-ghost use Rattle.query_walks.specs.Thinned.{KeepSame, most_left, is_tried, classes_after, seen_after};
+ghost use Rattle.query_walks.specs.Thinned.{KeepSame, LeavesSame, keeps_again, most_left, is_tried, classes_after, seen_after};
 
 use crate::word::{Word, Words};
-use code_units::{Memory, spells};
+use code_units::Memory;
 use indexmap::IndexSet;
 use keyed_names::Keys;
 use query_grammar::{Filter, ListFilter, StepFilter};
-use query_text::first_filter;
+use query_text::{alike_end, first_filter};
 use std::alloc::Global;
 use std::marker::Model;
 
@@ -52,28 +51,6 @@ impl<'a> TriedFilters<'a> {
     }
 }
 
-// The length of `:first`.
-const FIRST: usize = 6;
-
-// Whether units begin with `:first`.
-fn begins_with_first(units: &[u16]) -> bool
-    requires { AreFilters units.now }
-    ensures { result ≡ true → IsFirst units.now (kind.List on_list.First) 6 }
-{
-    units.len() >= FIRST && spells(&units[..FIRST], b":first")
-}
-
-// The first of the filters that units spell, as `first_filter` gives it; `:first` is known at once.
-fn next_filter(units: &[u16]) -> Option<(StepFilter<'_>, usize)>
-    requires { AreFilters units.now }
-    ensures { MatchOption result (filters_of units.now ≡ []) (λ r. IsFirst units.now r.0 r.1) }
-{
-    if begins_with_first(units) {
-        return Some((StepFilter::List(ListFilter::First), FIRST));
-    }
-    first_filter(units)
-}
-
 // The units before a place.
 fn front(units: &[u16], place: usize) -> &[u16]
     requires { place ≤ length units.now }
@@ -101,6 +78,33 @@ fn most_left(filter: &StepFilter<'_>, most: usize) -> usize
         StepFilter::List(ListFilter::Even) => most - most / 2,
         StepFilter::List(ListFilter::Odd) => most / 2,
     }
+}
+
+// Whether a filter keeps all that it left, where these are at most so many.
+fn keeps_again(filter: &StepFilter<'_>, most: usize) -> bool
+    ensures { result ≡ keeps_again filter.now most }
+{
+    match filter {
+        StepFilter::Node(_) => true,
+        StepFilter::List(ListFilter::First) => most <= 1,
+        StepFilter::List(ListFilter::Rest) => false,
+        StepFilter::List(ListFilter::Even) => most <= 1,
+        StepFilter::List(ListFilter::Odd) => false,
+    }
+}
+
+// The units behind the first filter, which leaves at most so many nodes, and behind those that are
+// spelled as it is where these keep all.
+fn behind_alike<'a>(units: &'a [u16], filter: &StepFilter<'a>, end: usize, most: usize) -> &'a [u16]
+    requires filters { AreFilters units.now }
+    requires first { IsFirst units.now filter.now end }
+    requires spelled { SpellsFilter filter.now units.now (drop end units.now) }
+    ensures { LeavesSame units.now filter.now most result.now }
+{
+    if keeps_again(filter, most) {
+        return behind(units, alike_end(units, 0, end));
+    }
+    behind(units, end)
 }
 
 // Whether a filter is to be tried, where at most so many nodes are left.
@@ -156,7 +160,7 @@ pub fn each_once(
     let mut kept = Vec::new(alloc);
     let mut most = nodes;
     let mut rest = units;
-    'filters: while let Some((filter, end)) = next_filter(rest) {
+    'filters: while let Some((filter, end)) = first_filter(rest) {
         if most == 0 {
             return Ok(TriedFilters {
                 filters: kept,
@@ -165,8 +169,8 @@ pub fn each_once(
         }
         let tried = is_tried(&mut classes, &mut seen, front(rest, end), &filter, most)?;
         most = most_left(&filter, most);
+        rest = behind_alike(rest, &filter, end, most);
         keep_one(filter, tried, &mut kept)?;
-        rest = behind(rest, end);
     }
     Ok(TriedFilters {
         filters: kept,

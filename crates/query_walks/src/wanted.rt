@@ -5,7 +5,7 @@ ghost use Rattle.page_tree.specs.Pages.{nodes};
 ghost use Rattle.page_tree.specs.Documents.{within, below};
 
 use crate::marks::Marks;
-use crate::nodes::{has_tag, has_value, is_element};
+use crate::nodes::{has_value, is_element, is_tagged};
 use code_units::{Memory, Text};
 use page_tree::{NodeId, Page};
 
@@ -45,7 +45,7 @@ impl Wanted<'_> {
     {
         match self {
             Wanted::Elements => is_element(page, node),
-            Wanted::Tagged(tag) => is_element(page, node) && has_tag(page, node, tag),
+            Wanted::Tagged(tag) => is_tagged(page, node, tag),
             Wanted::Named(id) => is_element(page, node) && has_value(page, node, b"id", id.units()),
             Wanted::Among(found, _) => found.has(node),
         }

@@ -1,5 +1,5 @@
 use Rattle.std.proofs.lemmas.Result.{err_from_is_err_and}
-use Rattle.query_text.proofs.Reading.{filters_begin, filters_further, filters_refused}
+use Rattle.query_text.proofs.Reading.{filters_begin, filters_alike, filters_refused}
 use Rattle.query_text.specs.declared.QueryFault.TheVariants as fault
 use Rattle.query_text.proofs.read.filters_end.Goals as goal
 
@@ -12,4 +12,4 @@ returns-in_err-next c =
     rw (p.1, p.2) (filters_refused _ _ _ (fault.BadQuery _) c.filters.invariant c.in_err-next.ensures)
 
 pub filters-preserved : goal.filters-preserved
-filters-preserved c = filters_further _ _ _ _ _ c.filters.invariant c.in_ok-next.ensures
+filters-preserved c = filters_alike _ _ _ _ _ _ c.filters.invariant c.in_ok-next.ensures c.alike_end-place.ensures

@@ -1,5 +1,5 @@
 use Rattle.std.proofs.Common.{sym, ◌∙◌}
-use Rattle.query_text.proofs.Reading.{begins_filter, first_read, no_filters_in, none_bad, some_units}
+use Rattle.query_text.proofs.Reading.{begins_filter, first_read, first_spelled, no_filters_in, none_bad, some_units}
 use Rattle.query_text.proofs.read.first_filter.Goals as goal
 
 pub filter_at-requires-clause-inside : goal.filter_at-requires-clause-inside
@@ -11,8 +11,11 @@ filter_at-requires-clause-mark c = begins_filter _ c.requires (some_units _ (sym
 pub unreachable-requires : goal.unreachable-requires
 unreachable-requires c = none_bad c.args.units.now c.requires c.filter_at.result _ c.in-Err.is c.filter_at.ensures
 
-pub returns-then-is_empty : goal.returns-then-is_empty
-returns-then-is_empty c = no_filters_in _ (sym c.is_empty.ensures ∙ c.if-is_empty.true)
+pub returns-then-is_empty-clause-first : goal.returns-then-is_empty-clause-first
+returns-then-is_empty-clause-first c = no_filters_in _ (sym c.is_empty.ensures ∙ c.if-is_empty.true)
 
-pub returns : goal.returns
-returns c = first_read c.args.units.now c.requires c.filter_at.result _ c.in-Ok.is c.filter_at.ensures
+pub returns-clause-first : goal.returns-clause-first
+returns-clause-first c = first_read c.args.units.now c.requires c.filter_at.result _ c.in-Ok.is c.filter_at.ensures
+
+pub returns-clause-spelled : goal.returns-clause-spelled
+returns-clause-spelled c = first_spelled c.args.units.now c.requires c.filter_at.result _ c.in-Ok.is c.filter_at.ensures

@@ -1,26 +1,15 @@
-use Rattle.std.proofs.Common.{◌∙◌, ap, length, length-set, get_or, arith}
-use Rattle.std.proofs.lemmas.List.{take_all}
+use Rattle.std.proofs.Common.{sym, ◌∙◌, ap, replicate, length, ◌+◌, true}
+use Rattle.std.specs.Prelude.{option_copied}
 use Rattle.page_tree.specs.Pages.{nodes}
-use Rattle.query_grammar.specs.Finds.{has_number}
-use Rattle.query_walks.specs.FirstFailed.{fails, failed_at}
-use Rattle.query_walks.proofs.Downward.{itself}
-use Rattle.query_walks.proofs.FirstFailed.{marks_more, position_within}
-use Rattle.query_walks.proofs.Members.{node_at}
+use Rattle.query_walks.specs.FirstFailed.{fails}
+use Rattle.query_walks.proofs.FirstFailed.{marked_all}
+use Rattle.query_walks.proofs.Members.{first_has}
 use Rattle.query_walks.proofs.failed.mark_all_failed.Goals as goal
 
-pub mark_failed-requires-clause-node : goal.mark_failed-requires-clause-node
-mark_failed-requires-clause-node c = node_at c.args.page.now c.args.list.now c.each.node-index 0 c.requires c.each-test.true
+pub mark_each-requires-clause-first : goal.mark_each-requires-clause-first
+mark_each-requires-clause-first c = c.requires c.in-Some.first.now (first_has c.args.list.now c.in-Some.first.now (sym c.first.ensures.value ∙ ap option_copied c.in-Some.is))
 
-pub each-preserved : goal.each-preserved
-each-preserved c =
-    let k = nodes c.args.page.now in
-    let fs = c.args.filters.now in
-    let x = get_or c.args.list.now c.each.node-index 0 in
-    record {
-      long = ap length c.in_ok-mark_failed.ensures ∙ length-set _ _ _ ∙ c.each.invariant.long;
-      marked = marks_more (failed_at k c.args.focus fs) c.args.list.now c.each.node-index x c.each.failed.items _ c.each-test.true (itself c.args.list.now c.each.node-index c.each-test.true)
-          (omega (arith, position_within (fails k c.args.focus x) fs, c.each.invariant.long)) c.in_ok-mark_failed.ensures c.each.invariant.marked;
-    }
-
-pub returns-clause-marked : goal.returns-clause-marked
-returns-clause-marked c = λ n h. c.each.invariant.marked n (ap (λ l. has_number l n) (take_all c.each.node-index c.args.list.now c.each-test.false) ∙ h)
+pub returns-in_ok-vec-in_default-clause-marked : goal.returns-in_ok-vec-in_default-clause-marked
+returns-in_ok-vec-in_default-clause-marked c =
+    let all = c.in_ok-vec-in_default.ensures.items_if_clones_equal (λ y h. h) ∙ ap (λ l. replicate (length l + 1) true) c.filters-count.ensures in
+    λ n h. marked_all (fails (nodes c.args.page.now) c.args.focus n) c.args.filters.now _ all
