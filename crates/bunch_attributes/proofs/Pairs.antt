@@ -15,7 +15,7 @@ use Rattle.widget_meaning.specs.Trees.{label_of}
 use Rattle.plain_tree.specs.Trees.{Trees}
 use Rattle.page_image.specs.Image.{relabel_in}
 use Rattle.native_image.proofs.Lists.{take_next}
-use Rattle.bunch_attributes.specs.Labels.{sets_nothing}
+use Rattle.bunch_attributes.specs.Restyled.{restyled, sets_nothing}
 
 no_true : false ≡ true → ⊥
 no_true e = cc
@@ -75,17 +75,24 @@ absent name (a ∷ attrs) h = by (bytes_eq a.0 name) refl h (absent name attrs)
     by false e f g = ap (λ l. a ∷ l) (g f)
 
 -- where there is no style, an empty value makes none
-pub none_styled : (p v : List ℕ) (o : Option (List ℕ)) (x : plain.Label) → sets_nothing o v ≡ true → o ≡ attribute_of (codes "style") x → with_attribute (codes "style") None x ≡ styled p v x
+none_styled : (p v : List ℕ) (o : Option (List ℕ)) (x : plain.Label) → sets_nothing o v ≡ true → o ≡ attribute_of (codes "style") x → with_attribute (codes "style") None x ≡ styled p v x
 none_styled p [] None (TextOf t) e h = refl
 none_styled p [] None (ElementOf tag attrs) e h = ap (ElementOf tag) (absent (codes "style") attrs (sym h)) ∙ ap (λ o. with_style o p [] (ElementOf tag attrs)) h
 none_styled p (u ∷ us) None x e h = absurd (omega (arith, eqb-true (suc (length us)) 0 e))
 none_styled p v (Some s) x e h = absurd (no_true e)
 
 -- else the style has the property set
-pub some_styled : (p v : List ℕ) (o : Option (List ℕ)) (x : plain.Label) → sets_nothing o v ≡ false → o ≡ attribute_of (codes "style") x → with_attribute (codes "style") (Some (print_style (with_property (option_map_or style_pairs o []) p v))) x ≡ styled p v x
+some_styled : (p v : List ℕ) (o : Option (List ℕ)) (x : plain.Label) → sets_nothing o v ≡ false → o ≡ attribute_of (codes "style") x → with_attribute (codes "style") (Some (print_style (with_property (option_map_or style_pairs o []) p v))) x ≡ styled p v x
 some_styled p [] None x h e = absurd (no_true (sym h))
 some_styled p (u ∷ us) None x h e = ap (λ s. with_style s p (u ∷ us) x) e
 some_styled p v (Some t) x h e = ap (λ s. with_style s p v x) e
+
+pub restyled_is : (p v : List ℕ) (o : Option (List ℕ)) (x : plain.Label) → o ≡ attribute_of (codes "style") x → with_attribute (codes "style") (restyled p v o) x ≡ styled p v x
+restyled_is p v o x h = by (sets_nothing o v) refl
+  where
+    by : (b : Bool) → sets_nothing o v ≡ b → with_attribute (codes "style") (if b then None else Some (print_style (with_property (option_map_or style_pairs o []) p v))) x ≡ styled p v x
+    by true e = none_styled p v o x e h
+    by false e = some_styled p v o x e h
 
 -- a change by what it makes of the label that is there
 pub relabel_same : (f g : plain.Label → plain.Label) (ts : Trees ℕ) (n : ℕ) (x : plain.Label) → label_of n ts ≡ Some x → f x ≡ g x → relabel_in f ts n ≡ relabel_in g ts n

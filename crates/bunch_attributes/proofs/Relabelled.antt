@@ -81,17 +81,17 @@ same_kind (label.Set name v) (TextOf t) = refl
 same_kind (label.Set name v) (ElementOf tag attributes) = refl
 same_kind (label.Unset name) (TextOf t) = refl
 same_kind (label.Unset name) (ElementOf tag attributes) = refl
-same_kind (label.Style property v) (TextOf t) = styled_text property v
+same_kind (label.Style how) (TextOf t) = styled_text how.property how.value
   where
     styled_text : (p v : List ℕ) → is_text (with_style None p v (TextOf t)) ≡ true
     styled_text p [] = refl
     styled_text p (u ∷ us) = refl
-same_kind (label.Style property v) (ElementOf tag attributes) = styled_element (attribute_of (codes "style") (ElementOf tag attributes)) v
+same_kind (label.Style how) (ElementOf tag attributes) = styled_element (attribute_of (codes "style") (ElementOf tag attributes)) how.property how.value
   where
-    styled_element : (o : Option (List ℕ)) (v : List ℕ) → is_text (with_style o property v (ElementOf tag attributes)) ≡ false
-    styled_element None [] = refl
-    styled_element None (u ∷ us) = refl
-    styled_element (Some s) v = refl
+    styled_element : (o : Option (List ℕ)) (p v : List ℕ) → is_text (with_style o p v (ElementOf tag attributes)) ≡ false
+    styled_element None p [] = refl
+    styled_element None p (u ∷ us) = refl
+    styled_element (Some s) p v = refl
 
 pub kind_stays : (c : Label) (m n : ℕ) (ts : Trees ℕ) → is_text_at (relabel_in (meant c) ts m) n ≡ is_text_at ts n
 kind_stays c m n ts = by (label_of m ts) refl

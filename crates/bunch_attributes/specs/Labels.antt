@@ -1,5 +1,5 @@
 -- Changes of labels.
-use Rattle.std.specs.Prelude.{ℕ, Bool, false, List, Option, Some, None, length, nat_eq}
+use Rattle.std.specs.Prelude.{ℕ, List, Some, None, length}
 use Rattle.std.specs.List.{fold}
 use Rattle.plain_tree.specs.Trees as plain
 use Rattle.tree_ops.specs.Labels.{with_attribute}
@@ -15,16 +15,11 @@ use Rattle.bunch_attributes.specs.declared.relabelling.Label.{Label}
 use Rattle.bunch_attributes.specs.declared.relabelling.Label.TheVariants as label
 use Rattle.bunch_attributes.specs.Tests.{passes}
 
--- whether there is no style and an empty value, which sets none
-abbrev pub sets_nothing : Option (List ℕ) → List ℕ → Bool
-sets_nothing None v = nat_eq (length v) 0
-sets_nothing (Some s) v = false
-
 -- what a change makes of a label
 abbrev pub meant : Label → plain.Label → plain.Label
 meant (label.Set name v) l = with_attribute name (Some v) l
 meant (label.Unset name) l = with_attribute name None l
-meant (label.Style property v) l = styled property v l
+meant (label.Style how) l = styled how.property how.value l
 
 -- the labels of nodes are changed: each must pass, and then a charge and a price are taken
 abbrev pub relabel_plan : Test → Label → Price → List ℕ → Value → State → Plan

@@ -3,3 +3,4 @@ pub mod Labels
 pub mod Kept
 pub mod Callees
 pub mod Values
+pub mod Restyled

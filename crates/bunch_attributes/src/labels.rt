@@ -11,6 +11,7 @@ ghost use Rattle.native_image.specs.Handed.{IsBunchOf, IsSoundIn, Runs, Writes, 
 
 use crate::judging::Test;
 use crate::relabelling::{Label, Relabelling, relabel};
+use crate::restyling::Restyling;
 use code_units::{Memory, Text};
 use js_image::{Fault, word};
 use js_values::{Meter, NativeOut, is_true};
@@ -46,12 +47,12 @@ fn set_attribute(
 {
     let cost = Cost::Units(units_for(bunch.nodes, &text));
     let name = word(shared.alloc, name)?;
-    let how = Relabelling {
+    let mut how = Relabelling {
         test: Test::Element,
         change: Label::Set { name, value: text },
         cost,
     };
-    relabel(bunch, &how, shared, meter, widget)
+    relabel(bunch, &mut how, shared, meter, widget)
 }
 
 /// `klass(v)`.
@@ -126,12 +127,12 @@ pub fn set_check(
     ensures { Runs shared.old shared.new widget.now widget.now meter.old meter.new names.SetCheck
         bunch.now.cell bunch.now.nodes.now (value.now ∷ []) result }
 {
-    let how = Relabelling {
+    let mut how = Relabelling {
         test: Test::Input,
         change: flag(shared.alloc, b"checked", is_true(value))?,
         cost: Cost::Nothing,
     };
-    relabel(bunch, &how, shared, meter, widget)
+    relabel(bunch, &mut how, shared, meter, widget)
 }
 
 /// `enable(v)`.
@@ -147,12 +148,12 @@ pub fn set_enabled(
     ensures { Runs shared.old shared.new widget.now widget.now meter.old meter.new names.SetEnabled
         bunch.now.cell bunch.now.nodes.now (value.now ∷ []) result }
 {
-    let how = Relabelling {
+    let mut how = Relabelling {
         test: Test::Field,
         change: flag(shared.alloc, b"disabled", !is_true(value))?,
         cost: Cost::Nothing,
     };
-    relabel(bunch, &how, shared, meter, widget)
+    relabel(bunch, &mut how, shared, meter, widget)
 }
 
 // Whether a value may be given to a property of a style: the property is listed, and the value is
@@ -186,10 +187,11 @@ pub fn set_style(
         return Ok(NativeOut::Throw(Fault::E4));
     }
     let cost = Cost::Units(units_for(bunch.nodes, &value));
-    let how = Relabelling {
+    let restyling = Restyling::new(shared.alloc, property, value)?;
+    let mut how = Relabelling {
         test: Test::Element,
-        change: Label::Style { property, value },
+        change: Label::Style(restyling),
         cost,
     };
-    relabel(bunch, &how, shared, meter, widget)
+    relabel(bunch, &mut how, shared, meter, widget)
 }

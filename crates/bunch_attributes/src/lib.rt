@@ -11,6 +11,7 @@ mod keeping;
 mod labels;
 mod listening;
 mod relabelling;
+mod restyling;
 mod styles;
 
 pub use firing::fire;
@@ -21,3 +22,4 @@ pub use keeping::Change;
 pub use labels::{set_check, set_class, set_enabled, set_style, set_title};
 pub use listening::{hush, is_undefined, listen, protect, set_mark};
 pub use relabelling::{Label, Relabelling};
+pub use restyling::Restyling;

@@ -10,7 +10,7 @@ ghost use Rattle.native_image.specs.Charges.{IsPrice, Price};
 ghost use Rattle.bunch_attributes.specs.Labels.{meant, relabel_plan};
 
 use crate::judging::{Test, all_pass};
-use crate::styles::restyle;
+use crate::restyling::Restyling;
 use code_units::{Memory, Text};
 use js_image::Fault;
 use js_values::{Meter, NativeOut};
@@ -21,13 +21,12 @@ use page_image::set_attr;
 use page_tree::{NodeId, Page};
 use std::alloc::Global;
 
-/// A change of an element: an attribute that is set or taken out, or a property of its style, which
-/// an empty value takes out.
+/// A change of an element: an attribute that is set or taken out, or a property of its style.
 #[derive(Drop)]
 pub enum Label {
     Set { name: Text, value: Text },
     Unset { name: Text },
-    Style { property: Text, value: Text },
+    Style(Restyling),
 }
 
 /// A change of all nodes of a Bunch: what is asked of each first, and what it costs.
@@ -42,7 +41,7 @@ pub struct Relabelling {
 fn change_node(
     alloc: Global,
     node: NodeId,
-    change: &Label,
+    change: &mut Label,
     w: WidgetId,
     page: &mut Page,
 ) -> Result<(), Memory>
@@ -50,7 +49,8 @@ fn change_node(
     requires own { owns page.old w.index node ≡ true }
     requires element { is_text_at (forest page.old w.index) (number page.old w.index node) ≡ false }
     ensures image { OnOk result (forest page.new w.index
-        ≡ relabel_in (meant change.now) (forest page.old w.index) (number page.old w.index node)) }
+        ≡ relabel_in (meant change.old) (forest page.old w.index) (number page.old w.index node)) }
+    ensures same { meant change.new ≡ meant change.old }
     ensures kept { KeepsNodes page.old page.new }
     ensures others { OthersStay page.old page.new w.index }
     ensures host { HostStays page.old page.new }
@@ -58,7 +58,7 @@ fn change_node(
     match change {
         Label::Set { name, value } => set(page, w, node, name, value),
         Label::Unset { name } => set_attr(page, w.index, node, name, None),
-        Label::Style { property, value } => restyle(alloc, node, property, value, w, page),
+        Label::Style(restyling) => restyling.restyle(alloc, node, w, page),
     }
 }
 
@@ -81,7 +81,7 @@ fn set(page: &mut Page, w: WidgetId, node: NodeId, name: &Text, value: &Text) ->
 fn change_all(
     alloc: Global,
     list: &[NodeId],
-    change: &Label,
+    change: &mut Label,
     w: WidgetId,
     page: &mut Page,
 ) -> Result<(), Memory>
@@ -90,7 +90,7 @@ fn change_all(
     requires elements { (n : ℕ) → has_number list.now n ≡ true
         → is_text_at (forest page.old w.index) (number page.old w.index n) ≡ false }
     ensures image { OnOk result (forest page.new w.index ≡
-        fold (relabel_in (meant change.now)) (forest page.old w.index) (map (number page.old w.index) list.now)) }
+        fold (relabel_in (meant change.old)) (forest page.old w.index) (map (number page.old w.index) list.now)) }
     ensures kept { KeepsNodes page.old page.new }
     ensures others { OthersStay page.old page.new w.index }
     ensures host { HostStays page.old page.new }
@@ -104,16 +104,16 @@ fn change_all(
 /// Changes all nodes of a Bunch, which is given back.
 pub(crate) fn relabel(
     bunch: &Receiver,
-    how: &Relabelling,
+    how: &mut Relabelling,
     shared: &mut Shared,
     meter: &mut Meter,
     widget: &Widget,
 ) -> Result<NativeOut, Memory>
     requires bunch { IsBunchOf shared.old widget.now bunch.now.cell bunch.now.nodes.now }
     requires sound { IsSoundIn shared.old widget.now }
-    ensures { (c : Price) → IsPrice how.now.cost c
+    ensures { (c : Price) → IsPrice how.old.cost c
         → Writes shared.old shared.new widget.now widget.now meter.old meter.new
-        (λ d s. relabel_plan how.now.test how.now.change c (numbers shared.old widget.now bunch.now.nodes.now)
+        (λ d s. relabel_plan how.old.test how.old.change c (numbers shared.old widget.now bunch.now.nodes.now)
         (sees shared.old widget.now (Value.Ref bunch.now.cell)) s) result }
 {
     if !all_pass(bunch.nodes, how.test, widget.id, &shared.page) {
@@ -130,7 +130,7 @@ pub(crate) fn relabel(
             change_all(
                 shared.alloc,
                 bunch.nodes,
-                &how.change,
+                &mut how.change,
                 widget.id,
                 &mut shared.page,
             )?;

@@ -1,22 +1,12 @@
 //! A property of an inline style that is set.
-ghost use Rattle.std.specs.Prelude.{◌≡◌, ◌++◌, ◌∷◌, [], true, false, codes, not, IfOk, OnOk, map, option_copied, if◌then◌else◌};
+ghost use Rattle.std.specs.Prelude.{◌≡◌, ◌++◌, ◌∷◌, [], not, IfOk, OnOk, map, option_copied, if◌then◌else◌};
 ghost use Rattle.std.specs.Option.{option_map_or};
 ghost use Rattle.std.specs.Str.{bytes_eq};
-ghost use Rattle.plain_tree.specs.Trees as plain;
-ghost use Rattle.tree_ops.specs.Labels.{attribute_of, with_attribute};
 ghost use Rattle.style_text.specs.Styles.{is_used};
-ghost use Rattle.widget_meaning.specs.BunchWrites.{styled};
 ghost use Rattle.widget_meaning.specs.Styles as means;
-ghost use Rattle.page_image.specs.Image.{HasRoot, forest, number, owns, relabel_in};
-ghost use Rattle.page_image.specs.Stays.{HostStays, KeepsNodes, OthersStay};
-ghost use Rattle.page_image.specs.Targets.{is_text_at};
-ghost use Rattle.bunch_attributes.specs.Labels.{sets_nothing};
+ghost use Rattle.bunch_attributes.specs.Restyled.{restyled, sets_nothing};
 
 use code_units::{Memory, Text};
-use js_image::word;
-use native_common::WidgetId;
-use page_image::{attr_of_word, set_attr};
-use page_tree::{NodeId, Page};
 use std::alloc::Global;
 use style_text::{StyleFault, print_style, read_style};
 
@@ -151,15 +141,14 @@ fn sets_nothing(style: Option<&Text>, value: &Text) -> bool
     }
 }
 
-// The text of a style with a property set; none where there was none and nothing is set.
-fn restyled(
+/// The text of a style with a property set; none where there was none and nothing is set.
+pub(crate) fn restyled(
     alloc: Global,
     style: Option<&Text>,
     property: &Text,
     value: &Text,
 ) -> Result<Option<Text>, Memory>
-    ensures { IfOk result (λ o. (x : plain.Label) → option_copied style.entry ≡ attribute_of (codes "style") x
-        → with_attribute (codes "style") o x ≡ styled property.now value.now x) }
+    ensures { IfOk result (λ text. text ≡ restyled property.now value.now (option_copied style.entry)) }
 {
     if sets_nothing(style, value) {
         return Ok(None);
@@ -168,32 +157,4 @@ fn restyled(
     let changed = with_property(alloc, &pairs, property, value)?;
     let text = print_style(alloc, &changed)?;
     Ok(Some(text))
-}
-
-/// Sets a property of the style of an element of a widget.
-pub(crate) fn restyle(
-    alloc: Global,
-    node: NodeId,
-    property: &Text,
-    value: &Text,
-    w: WidgetId,
-    page: &mut Page,
-) -> Result<(), Memory>
-    requires home { HasRoot page.old w.index }
-    requires own { owns page.old w.index node ≡ true }
-    requires element { is_text_at (forest page.old w.index) (number page.old w.index node) ≡ false }
-    ensures image { OnOk result (forest page.new w.index ≡
-        relabel_in (styled property.now value.now) (forest page.old w.index) (number page.old w.index node)) }
-    ensures kept { KeepsNodes page.old page.new }
-    ensures others { OthersStay page.old page.new w.index }
-    ensures host { HostStays page.old page.new }
-{
-    let text = restyled(
-        alloc,
-        attr_of_word(page, w.index, node, b"style"),
-        property,
-        value,
-    )?;
-    let name = word(alloc, b"style")?;
-    set_attr(page, w.index, node, &name, text)
 }

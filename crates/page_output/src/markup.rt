@@ -8,7 +8,7 @@ ghost use Rattle.page_tree.specs.Pages.{nodes};
 ghost use Rattle.page_output.specs.Printing.{Prints, PrintsAttribute, PrintsOpening, PrintsPart};
 
 use crate::escape::{push_text, push_value};
-use crate::style::style_form;
+use crate::style::LastStyle;
 use code_units::{Memory, Text, is_word, push_utf8};
 use page_tree::{Content, NodeId, Page};
 use plain_tree::{Attr, Plain, is_void};
@@ -27,13 +27,19 @@ fn push_written(alloc: Global, name: &Text, value: &Text, out: &mut Vec<u8>) -> 
 }
 
 // Appends an attribute, a style in its printed form. An empty style is left out.
-fn push_attribute(alloc: Global, name: &Text, value: &Text, out: &mut Vec<u8>) -> Result<(), Memory>
+fn push_attribute(
+    alloc: Global,
+    name: &Text,
+    value: &Text,
+    last: &mut LastStyle,
+    out: &mut Vec<u8>,
+) -> Result<(), Memory>
     ensures { OnOk result (PrintsAttribute (name.now, value.now) out.old.items out.new.items) }
 {
     if !is_word(name, b"style") {
         return push_written(alloc, name, value, out);
     }
-    let style = style_form(alloc, value)?;
+    let style = last.form_of(alloc, value)?;
     if style.units().is_empty() {
         return Ok(());
     }
@@ -45,6 +51,7 @@ fn write_opening(
     alloc: Global,
     tag: &Text,
     attrs: &Vec<Attr>,
+    last: &mut LastStyle,
     out: &mut Vec<u8>,
 ) -> Result<(), Memory>
     ensures { OnOk result (PrintsOpening tag.now (map attribute_of attrs.now.items) out.old.items out.new.items) }
@@ -52,7 +59,7 @@ fn write_opening(
     out.extend_from_slice(b"<")?;
     push_utf8(tag, out)?;
     'each: for attr in attrs {
-        push_attribute(alloc, &attr.name, &attr.value, out)?;
+        push_attribute(alloc, &attr.name, &attr.value, last, out)?;
     }
     out.extend_from_slice(b">")?;
     Ok(())
@@ -63,6 +70,7 @@ fn write_node_opening(
     alloc: Global,
     tag: &Text,
     attributes: &Vec<(Text, Text)>,
+    last: &mut LastStyle,
     out: &mut Vec<u8>,
 ) -> Result<(), Memory>
     ensures { OnOk result (PrintsOpening tag.now attributes.now.items out.old.items out.new.items) }
@@ -70,7 +78,7 @@ fn write_node_opening(
     out.extend_from_slice(b"<")?;
     push_utf8(tag, out)?;
     'each: for attribute in attributes {
-        push_attribute(alloc, &attribute.0, &attribute.1, out)?;
+        push_attribute(alloc, &attribute.0, &attribute.1, last, out)?;
     }
     out.extend_from_slice(b">")?;
     Ok(())
@@ -91,13 +99,14 @@ fn push_opening(
     alloc: Global,
     tag: &Text,
     attrs: &Vec<Attr>,
+    last: &mut LastStyle,
     out: &mut Vec<u8>,
 ) -> Result<(), Memory>
     ensures ok { OnOk result (PrintsOpening tag.now (map attribute_of attrs.now.items) out.old.items out.new.items) }
     ensures err { OnErr result (out.new.items ≡ out.old.items) }
 {
     let mut bytes = Vec::new(alloc);
-    write_opening(alloc, tag, attrs, &mut bytes)?;
+    write_opening(alloc, tag, attrs, last, &mut bytes)?;
     out.extend_from_slice(&bytes)?;
     Ok(())
 }
@@ -107,13 +116,14 @@ fn push_node_opening(
     alloc: Global,
     tag: &Text,
     attributes: &Vec<(Text, Text)>,
+    last: &mut LastStyle,
     out: &mut Vec<u8>,
 ) -> Result<(), Memory>
     ensures ok { OnOk result (PrintsOpening tag.now attributes.now.items out.old.items out.new.items) }
     ensures err { OnErr result (out.new.items ≡ out.old.items) }
 {
     let mut bytes = Vec::new(alloc);
-    write_node_opening(alloc, tag, attributes, &mut bytes)?;
+    write_node_opening(alloc, tag, attributes, last, &mut bytes)?;
     out.extend_from_slice(&bytes)?;
     Ok(())
 }
@@ -129,8 +139,13 @@ fn push_closing(alloc: Global, tag: &Text, out: &mut Vec<u8>) -> Result<(), Memo
     Ok(())
 }
 
-/// Appends the printed text of a plain tree. A refusal leaves a beginning of it appended.
-pub fn print_plain(alloc: Global, plain: &Plain, out: &mut Vec<u8>) -> Result<(), Memory>
+// Appends the printed text of a plain tree.
+fn push_plain(
+    alloc: Global,
+    plain: &Plain,
+    last: &mut LastStyle,
+    out: &mut Vec<u8>,
+) -> Result<(), Memory>
     ensures ok { OnOk result (Prints (unplaced plain.now) out.old.items out.new.items) }
     ensures part { OnErr result (PrintsPart (unplaced plain.now) out.old.items out.new.items) }
 {
@@ -142,16 +157,52 @@ pub fn print_plain(alloc: Global, plain: &Plain, out: &mut Vec<u8>) -> Result<()
             children,
             ..
         } => {
-            push_opening(alloc, tag, attrs, out)?;
+            push_opening(alloc, tag, attrs, last, out)?;
             if is_void(tag) {
                 return Ok(());
             }
             'each: for child in children {
-                print_plain(alloc, child, out)?;
+                push_plain(alloc, child, last, out)?;
             }
             push_closing(alloc, tag, out)
         }
     }
+}
+
+// Appends the printed text of a node.
+fn push_node(
+    alloc: Global,
+    page: &Page,
+    node: NodeId,
+    last: &mut LastStyle,
+    out: &mut Vec<u8>,
+) -> Result<(), Memory>
+    requires { node < length (nodes page.now) }
+    ensures ok { OnOk result (Prints (unmarked (tree (nodes page.now) node)) out.old.items out.new.items) }
+    ensures part { OnErr result (PrintsPart (unmarked (tree (nodes page.now) node)) out.old.items out.new.items) }
+{
+    match page.content(node) {
+        Content::Text(text) => push_text(alloc, text, out),
+        Content::Element(tag, attributes) => {
+            push_node_opening(alloc, tag, attributes, last, out)?;
+            if is_void(tag) {
+                return Ok(());
+            }
+            'each: for child in page.children(node) {
+                push_node(alloc, page, *child, last, out)?;
+            }
+            push_closing(alloc, tag, out)
+        }
+    }
+}
+
+/// Appends the printed text of a plain tree. A refusal leaves a beginning of it appended.
+pub fn print_plain(alloc: Global, plain: &Plain, out: &mut Vec<u8>) -> Result<(), Memory>
+    ensures ok { OnOk result (Prints (unplaced plain.now) out.old.items out.new.items) }
+    ensures part { OnErr result (PrintsPart (unplaced plain.now) out.old.items out.new.items) }
+{
+    let mut last = LastStyle::empty(alloc)?;
+    push_plain(alloc, plain, &mut last, out)
 }
 
 /// Appends the printed text of a node. A refusal leaves a beginning of it appended.
@@ -160,17 +211,6 @@ pub fn print(alloc: Global, page: &Page, node: NodeId, out: &mut Vec<u8>) -> Res
     ensures ok { OnOk result (Prints (unmarked (tree (nodes page.now) node)) out.old.items out.new.items) }
     ensures part { OnErr result (PrintsPart (unmarked (tree (nodes page.now) node)) out.old.items out.new.items) }
 {
-    match page.content(node) {
-        Content::Text(text) => push_text(alloc, text, out),
-        Content::Element(tag, attributes) => {
-            push_node_opening(alloc, tag, attributes, out)?;
-            if is_void(tag) {
-                return Ok(());
-            }
-            'each: for child in page.children(node) {
-                print(alloc, page, *child, out)?;
-            }
-            push_closing(alloc, tag, out)
-        }
-    }
+    let mut last = LastStyle::empty(alloc)?;
+    push_node(alloc, page, node, &mut last, out)
 }

@@ -45,6 +45,9 @@ returns-in_err-property c = writes_memory c.args.shared.now c.args.widget.now c.
 pub returns-in_err-value : goal.returns-in_err-value
 returns-in_err-value c = writes_memory c.args.shared.now c.args.widget.now c.requires.sound c.args.meter.now c.args.meter.now _ c.from_residual-in_err-value.result c.from_residual-in_err-value.ensures.0
 
+pub returns-in_err-restyling : goal.returns-in_err-restyling
+returns-in_err-restyling c = writes_memory c.args.shared.now c.args.widget.now c.requires.sound c.args.meter.now c.args.meter.now _ c.from_residual-in_err-restyling.result c.from_residual-in_err-restyling.ensures.0
+
 pub returns-then-not-may_style : goal.returns-then-not-may_style
 returns-then-not-may_style c =
     let w = c.args.widget.now.id.index in
@@ -68,6 +71,9 @@ returns c =
     let v = seen w s.cells (value.Ref c.args.bunch.now.cell) in
     let a = seen w s.cells c.args.property.now in
     let t = seen w s.cells c.args.value.now in
-    writes_same c.args.shared.now c.relabel.new.shared c.args.widget.now c.args.widget.now c.args.meter.now c.relabel.new.meter (λ d u. write_method SetStyle ns v (a ∷ t ∷ []) d u) (λ d u. relabel_plan test.Element (label.Style c.in_ok-property.property c.in_ok-value.value) (OfUnits (length ns * length c.in_ok-value.value)) ns v u) c.relabel.result
-    (λ fs x d. let u = image fs x w h in primitives_of a t u (means.set_style ns (to_text a) (to_text t) v u) (sym (c.either_object.ensures w s.cells) ∙ c.if-either_object.false) ∙ wanted E4 (is_listed (to_text a) && (nat_eq (length (to_text t)) 0 || is_value (to_text t))) u (want_all (passes test.Element u) ns u (charge (length ns) u (pay_for (OfUnits (length ns * length (to_text t))) u (λ y. give v (fold (relabel (means.styled (to_text a) (to_text t))) y ns))))) ((λ j. is_listed (sym (c.in_ok-property.ensures w s.cells) j) && (nat_eq (length (sym (c.in_ok-value.ensures w s.cells) j)) 0 || is_value (sym (c.in_ok-value.ensures w s.cells) j))) ∙ sym c.may_style.ensures ∙ c.if-not-may_style.false) ∙ (λ j. relabel_plan test.Element (label.Style (sym (c.in_ok-property.ensures w s.cells) j) (sym (c.in_ok-value.ensures w s.cells) j)) (OfUnits (length ns * length (sym (c.in_ok-value.ensures w s.cells) j))) ns v u))
+    let how = c.in_ok-restyling.restyling in
+    let named = sym (c.in_ok-property.ensures w s.cells) ∙ sym c.in_ok-restyling.ensures.property in
+    let valued = sym (c.in_ok-value.ensures w s.cells) ∙ sym c.in_ok-restyling.ensures.value in
+    writes_same c.args.shared.now c.relabel.new.shared c.args.widget.now c.args.widget.now c.args.meter.now c.relabel.new.meter (λ d u. write_method SetStyle ns v (a ∷ t ∷ []) d u) (λ d u. relabel_plan test.Element (label.Style how) (OfUnits (length ns * length c.in_ok-value.value)) ns v u) c.relabel.result
+    (λ fs x d. let u = image fs x w h in primitives_of a t u (means.set_style ns (to_text a) (to_text t) v u) (sym (c.either_object.ensures w s.cells) ∙ c.if-either_object.false) ∙ wanted E4 (is_listed (to_text a) && (nat_eq (length (to_text t)) 0 || is_value (to_text t))) u (want_all (passes test.Element u) ns u (charge (length ns) u (pay_for (OfUnits (length ns * length (to_text t))) u (λ y. give v (fold (relabel (means.styled (to_text a) (to_text t))) y ns))))) ((λ j. is_listed (sym (c.in_ok-property.ensures w s.cells) j) && (nat_eq (length (sym (c.in_ok-value.ensures w s.cells) j)) 0 || is_value (sym (c.in_ok-value.ensures w s.cells) j))) ∙ sym c.may_style.ensures ∙ c.if-not-may_style.false) ∙ (λ j. want_all (passes test.Element u) ns u (charge (length ns) u (pay_for (OfUnits (length ns * length (sym (c.in_ok-value.ensures w s.cells) j))) u (λ y. give v (fold (relabel (means.styled (named j) (valued j))) y ns))))))
     (c.relabel.ensures (OfUnits (length ns * length c.in_ok-value.value)) (c.units_for.ensures ∙ ap (λ k. counted (k * length c.in_ok-value.value)) (sym (length-map c.args.bunch.now.nodes.now (number p w)))))

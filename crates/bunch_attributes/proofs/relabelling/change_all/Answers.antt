@@ -10,7 +10,7 @@ use Rattle.page_image.proofs.Hosting.{host_then}
 use Rattle.bunch_attributes.proofs.relabelling.change_all.Goals as goal
 
 pub each-init : goal.each-init
-each-init c = record { image = refl; kept = nodes_same c.args.page.now; others = λ v lt ne. refl; host = host_here c.args.page.now; elements = c.requires.elements }
+each-init c = record { same = refl; image = refl; kept = nodes_same c.args.page.now; others = λ v lt ne. refl; host = host_here c.args.page.now; elements = c.requires.elements }
 
 pub change_node-requires-clause-home : goal.change_node-requires-clause-home
 change_node-requires-clause-home c = home_stays c.args.w.index c.args.w.small c.args.page.now c.each.page (page_keeps c.args.w.index c.args.page.now c.each.page c.each.invariant.kept c.each.invariant.others) c.requires.home
@@ -27,14 +27,16 @@ each-preserved c =
     let mid = c.each.page in
     let new = c.change_node.new.page in
     let m = get_or c.args.list.now c.each.node-index 0 in
+    let changed = c.in_ok-change_node.ensures.image ∙ ap (λ f. relabel_in f (forest mid w) (number mid w m)) c.each.invariant.same in
     record {
-      image = folded_more (relabel_in (meant c.args.change.now)) (forest c.args.page.now w) (number c.args.page.now w) (forest mid w) (forest new w) c.args.list.now c.each.node-index (number mid w m) c.each-test.true (c.each.invariant.kept.numbers w m) c.each.invariant.image c.in_ok-change_node.ensures.image;
+      same = c.change_node.ensures.same ∙ c.each.invariant.same;
+      image = folded_more (relabel_in (meant c.args.change.now)) (forest c.args.page.now w) (number c.args.page.now w) (forest mid w) (forest new w) c.args.list.now c.each.node-index (number mid w m) c.each-test.true (c.each.invariant.kept.numbers w m) c.each.invariant.image changed;
       kept = nodes_then c.args.page.now mid new c.each.invariant.kept c.change_node.ensures.kept;
       others = λ v lt ne. c.change_node.ensures.others v lt ne ∙ c.each.invariant.others v lt ne;
       host = host_then c.args.page.now mid new c.each.invariant.host c.change_node.ensures.host;
       elements = λ n e.
           ap (λ k. is_text_at (forest new w) k) (c.change_node.ensures.kept.numbers w n)
-          ∙ ap (λ ts. is_text_at ts (number mid w n)) c.in_ok-change_node.ensures.image
+          ∙ ap (λ ts. is_text_at ts (number mid w n)) changed
           ∙ kind_stays c.args.change.now (number mid w m) (number mid w n) (forest mid w)
           ∙ c.each.invariant.elements n e;
     }

@@ -10,7 +10,8 @@ use Rattle.bunch_attributes.proofs.relabelling.change_all.Given as goal
 -- those before are changed, and all are elements
 abbrev pub invariant-each : goal.invariant-each
 invariant-each l = record {
-  image : forest l.page l.w.index ≡ fold (relabel_in (meant l.change)) (forest l.initial.page l.w.index) (map (number l.initial.page l.w.index) (take l.node-index l.list));
+  same : meant l.change ≡ meant l.initial.change;
+  image : forest l.page l.w.index ≡ fold (relabel_in (meant l.initial.change)) (forest l.initial.page l.w.index) (map (number l.initial.page l.w.index) (take l.node-index l.list));
   kept : KeepsNodes l.initial.page l.page;
   others : OthersStay l.initial.page l.page l.w.index;
   host : HostStays l.initial.page l.page;
