@@ -23,9 +23,9 @@ use Rattle.page_check.specs.Runs.{slots_named}
 use Rattle.slot_lives.specs.Lines.{short_line}
 use Rattle.slot_lives.specs.Ends.{end_of, run_name, some_refused}
 use Rattle.slot_lives.specs.Outcome.{ComeTo, Outcome, last_lives}
-use Rattle.widget_host.specs.declared.host.Host.{Host}
-use Rattle.widget_host.specs.declared.lines.RunLine.{RunLine}
-use Rattle.widget_host.specs.Housed.{IsLineOf, IsShown, AreShown, seens, chains, accepts, present}
+use Rattle.page_play.specs.Host.{Host}
+use Rattle.page_play.specs.RunLine.{RunLine}
+use Rattle.page_play.specs.Housed.{IsLineOf, IsShown, AreShown, seens, chains, accepts, present}
 use Rattle.run_steps.specs.declared.ending.Status.TheVariants as status
 use Rattle.run_steps.specs.Items.{IsFor, AreItems}
 use Rattle.run_steps.specs.Page.{parts, slot_names, slot_files, files_named, files_swapped, swap_file, texts}

@@ -28,9 +28,8 @@ use Rattle.page_check.proofs.OneWidget.{widget_once, never_refused}
 use Rattle.slot_lives.specs.Lives.{Life}
 use Rattle.slot_lives.specs.Ends.{run_name, Begins, accepted, broken, AllBegin, no_life, one_life, end_of}
 use Rattle.slot_lives.specs.Outcome.{Outcome, ComeTo, IsReport, last_lives}
-use Rattle.widget_host.specs.declared.host.Host.{Host}
-use Rattle.page_load.specs.Loads.{singles}
-use Rattle.widget_host.specs.Housed.{IsLaid, chains, scripts}
+use Rattle.page_play.specs.Host.{Host}
+use Rattle.page_play.specs.Housed.{IsLaid, chains, scripts, singles}
 use Rattle.page_play.specs.declared.findings.Findings.{Findings}
 use Rattle.page_play.specs.Findings.{AreFindings, found_refused, lines_of, lasts_told, ended_told}
 use Rattle.page_play.specs.Swaps.{swap_slots, swap_positions}

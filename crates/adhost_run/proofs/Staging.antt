@@ -1,7 +1,7 @@
 -- The host that is left, step by step.
 use Rattle.std.proofs.Common.{◌≡◌, ℕ, List, Bool, true, false, Option, Some, None, Result, Ok, Err, IfOk, IfSome, refl, sym, subst}
 use Rattle.host_io.specs.Files.{FileMap}
-use Rattle.widget_host.specs.declared.host.Host.{Host}
+use Rattle.page_play.specs.Host.{Host}
 use Rattle.run_steps.specs.declared.reading.NoReport.{NoReport}
 use Rattle.adhost_run.specs.declared.reports.Report.{Report}
 use Rattle.run_steps.specs.declared.reading.NoReport.TheVariants as stop

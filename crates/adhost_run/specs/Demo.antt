@@ -6,13 +6,13 @@ use Rattle.manifest_reader.specs.Page.{Part, Widget, usual_fuel}
 use Rattle.slot_check.specs.Sources.{Source}
 use Rattle.page_check.specs.Runs.{SlotRun}
 use Rattle.widget_meaning.specs.OwnState.{OwnState}
+use Rattle.page_play.specs.Host.{Host}
+use Rattle.page_play.specs.Housed.{IsHoused, AreShown, chains}
 use Rattle.run_steps.specs.declared.ending.Status.{Status}
 use Rattle.run_steps.specs.declared.ending.Status.TheVariants as status
 use Rattle.slot_lives.specs.Lines.{short_line}
 use Rattle.slot_lives.specs.Ends.{some_refused}
 use Rattle.slot_lives.specs.Outcome.{ComeTo, last_lives}
-use Rattle.widget_host.specs.declared.host.Host.{Host}
-use Rattle.widget_host.specs.Housed.{IsHoused, AreShown, chains}
 
 -- the names of its 16 slots
 abbrev pub demo_names : List (List ℕ)

@@ -1,3 +1,6 @@
+pub use Rattle.page_play.specs.Host
+pub use Rattle.page_play.specs.HostItem
+pub use Rattle.page_play.specs.Housed
 pub mod Page
 pub mod Demo
 pub mod Answer

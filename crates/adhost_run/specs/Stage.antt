@@ -21,9 +21,8 @@ use Rattle.page_check.specs.Widgets.{HasWidget}
 use Rattle.slot_lives.specs.Lives.{Life, swaps_in}
 use Rattle.slot_lives.specs.Ends.{run_name}
 use Rattle.slot_lives.specs.Outcome.{ComeTo, last_lives}
-use Rattle.widget_host.specs.declared.host.Host.{Host}
-use Rattle.page_load.specs.Loads.{singles}
-use Rattle.widget_host.specs.Housed.{IsLaid, AreShown, accepts, chains, channels, ends, scripts}
+use Rattle.page_play.specs.Host.{Host}
+use Rattle.page_play.specs.Housed.{AreShown, IsLaid, accepts, chains, channels, ends, scripts, singles}
 use Rattle.page_play.specs.Swaps.{swap_slots}
 use Rattle.page_play.specs.Played.{AreScriptsOf}
 use Rattle.page_play.specs.Settled.{IsSettled}

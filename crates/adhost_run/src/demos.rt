@@ -15,13 +15,12 @@ use crate::playing::play_page;
 use crate::reports::Report;
 use code_units::{Memory, Text};
 use manifest_reader::{Entry, Manifest};
-use page_play::{plays_come_to, run_text, some_refused};
+use page_play::{Host, plays_come_to, run_text, some_refused};
 use run_steps::slot_names;
 use slot_check::SourceFile;
 use std::alloc::Global;
 use trace_reader::{Happening, TraceItem};
 use trace_text::{Line, report_line};
-use widget_host::Host;
 
 /// The names of the slots.
 const NAMES: [&str; 16] = [

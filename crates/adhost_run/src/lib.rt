@@ -14,5 +14,6 @@ mod runs;
 mod writing;
 
 pub use laws::{one_answer, some_answer};
+pub use page_play::{Host, HostItem};
 pub use run_steps::Status;
 pub use running::{exit_number, run};

@@ -19,12 +19,13 @@ use code_units::{Memory, Text};
 use keyed_names::Keys;
 use manifest_reader::Manifest;
 use page_check::{JudgedPage, JudgedSwaps, judge_page};
-use page_play::{Findings, certificate, find_swaps, play, plays_come_to, report, some_refused};
+use page_play::{
+    Findings, Host, certificate, find_swaps, play, plays_come_to, report, some_refused,
+};
 use run_steps::{CERT_LIMIT, NoReport};
 use slot_check::SourceFile;
 use std::alloc::Global;
 use trace_reader::TraceItem;
-use widget_host::Host;
 
 /// What is written of a page that ran.
 #[derive(Clone, Copy)]

@@ -13,10 +13,10 @@ use crate::playing::{Way, Writes};
 use crate::runs::run_page;
 use code_units::Memory;
 use host_io::Files;
+use page_play::Host;
 use run_steps::{FILE_LIMIT, NoReport, Request, read_file};
 use script_check::{LibraryText, library_line, tidied_library};
 use std::alloc::Global;
-use widget_host::Host;
 
 /// How `render` runs a page.
 const RENDERING: Way = Way {

@@ -10,10 +10,10 @@ ghost use Rattle.adhost_run.specs.Ends.{is_answer, writes, is_whole, Completes, 
 use crate::reports::report_on;
 use crate::writing::write_report;
 use host_io::{Files, Sink};
+use page_play::Host;
 use run_steps::{Status, parse, status_of};
 use std::alloc::Global;
 use std::mem;
-use widget_host::Host;
 
 /// Does what the words ask for, over the files, and writes the report to the sink. What a run
 /// answers is `Answer`, which is one (`one_answer`), and is there (`some_answer`).

@@ -22,15 +22,15 @@ use Rattle.pick_laws.specs.declared.entry.Picked.{Picked}
 use Rattle.pick_laws.specs.declared.entry.Picked.TheVariants as picked
 use Rattle.pick_laws.specs.Picks.{Picks}
 use Rattle.native_image.specs.declared.handed.Shared.{Shared}
-use Rattle.turn_returns.specs.declared.turn.Turn.{Turn}
 use Rattle.native_image.specs.declared.handed.Widget.{Widget}
 use Rattle.turn_steps.specs.declared.turn.TurnEnd.{TurnEnd}
 use Rattle.turn_steps.specs.declared.turn.TurnEnd.TheVariants as ended
-use Rattle.js_steps.specs.declared.answer.Stop.TheVariants as stop
 use Rattle.store_cells.specs.Cells.{PlainCell}
 use Rattle.turn_steps.specs.Keeping.{KeepsTurn}
 use Rattle.turn_steps.specs.Moving.{IsCutAt, IsEndedAt}
 use Rattle.turn_steps.specs.Turning.{FineTurn as FineTurnOf, FineWidget, end_of, forests, state_in}
+use Rattle.life_queue.specs.Stop.TheVariants as stop
+use Rattle.life_queue.specs.Turn.{Turn}
 use Rattle.life_queue.specs.declared.life.Life.{Life}
 use Rattle.life_queue.specs.Lives.{going_of, life_seen, outside, own_of, trees_in, work_of, works_of}
 use Rattle.life_queue.specs.Fine.{FineLife, FineTurn, FineWork, HasLib, KeepsLife, held_back}

@@ -20,12 +20,12 @@ use Rattle.native_image.specs.Image.{beside}
 use Rattle.native_image.proofs.Joint.{rest, store_lift}
 use Rattle.native_image.proofs.Told.{paid_told}
 use Rattle.native_image.specs.declared.handed.Shared.{Shared}
+use Rattle.life_queue.specs.Turn.{Turn}
 use Rattle.life_queue.specs.declared.life.Life.{Life}
 use Rattle.life_queue.specs.Lives.{outside, own_of, trees_in}
 use Rattle.life_queue.specs.Fine.{FineLife, FineTurn, KeepsLife}
 use Rattle.life_queue.proofs.Keeps.{keeps_stored}
 use Rattle.life_queue.proofs.Scripts.{rested}
-use Rattle.turn_returns.specs.declared.turn.Turn.{Turn}
 use Rattle.std.specs.Prelude.{IfSome}
 use Rattle.std.specs.declared.vec.Vec.{Vec}
 use Rattle.std.specs.declared.alloc.Global.{Global}

@@ -1,5 +1,5 @@
 //! The note of an uncaught throw.
-ghost use Rattle.std.specs.Prelude.{◌≡◌, ℕ, ◌+◌, ◌++◌, ◌<◌, List, IfOk, None, OnOk, Some, codes, length};
+ghost use Rattle.std.specs.Prelude.{◌≡◌, ℕ, ◌+◌, ◌++◌, List, IfOk, None, OnOk, Some, codes, length};
 ghost use Rattle.js_tree.specs.Forest.{Forest};
 ghost use Rattle.store_cells.specs.Cells.{PlainCell};
 ghost use Rattle.widget_meaning.specs.OwnState.{State};
@@ -14,9 +14,9 @@ ghost use Rattle.life_picks.specs.Picking.{both_texts, own_text_in, text_in};
 
 use code_units::{Memory, Owner, Text};
 use js_image::{Paid, StopCause, get, has_own, pay_units, word};
-use js_steps::Stop;
 use js_values::to_text;
-use life_queue::Life;
+use life_queue::{Life, Stop};
+use native_common::WidgetId;
 use native_image::Shared;
 use object_store::{CellId, Store, UNIT_LIMIT, Value};
 use std::alloc::Global;
@@ -142,23 +142,23 @@ fn note_of(alloc: Global, store: &Store, w: u32, value: &Value) -> Result<Text, 
 }
 
 // A note is kept and paid; where it cannot be paid, the widget stops.
-fn keep_note(shared: &mut Shared, w: u32, life: &mut Life, text: Text) -> Result<(), Memory>
-    requires widget { w < 32 }
+fn keep_note(shared: &mut Shared, id: WidgetId, life: &mut Life, text: Text) -> Result<(), Memory>
     requires rest { life.old.turn ≡ None }
-    requires fine { FineLife shared.old w life.old }
-    ensures noted { OnOk result (own_of shared.new w life.new ≡ noted text (own_of shared.old w life.old)) }
-    ensures fine { OnOk result (FineLife shared.new w life.new) }
-    ensures kept { KeepsLife w shared.old shared.new life.old life.new }
+    requires fine { FineLife shared.old id.index life.old }
+    ensures noted { OnOk result
+        (own_of shared.new id.index life.new ≡ noted text (own_of shared.old id.index life.old)) }
+    ensures fine { OnOk result (FineLife shared.new id.index life.new) }
+    ensures kept { KeepsLife id.index shared.old shared.new life.old life.new }
     ensures rest { life.new.turn ≡ life.old.turn }
     ensures queue { life.new.queue ≡ life.old.queue }
 {
     let cost = cost_of(text.units());
-    let paid = shared.store.counts(Owner::Widget(w));
+    let paid = shared.store.counts(Owner::Widget(id.index));
     if cost > (UNIT_LIMIT - paid.units) as usize {
         life.records.stop = Some(Stop::Due(StopCause::Units));
         return Ok(());
     }
-    match pay_units(&mut shared.store, w, cost as u32) {
+    match pay_units(&mut shared.store, id.index, cost as u32) {
         Paid::Done => {
             life.records.uncaught.push(text)?;
             Ok(())
@@ -178,22 +178,21 @@ fn cost_of(units: &[u16]) -> usize
 pub(crate) fn note(
     alloc: Global,
     shared: &mut Shared,
-    w: u32,
+    id: WidgetId,
     life: &mut Life,
     value: &Value,
 ) -> Result<(), Memory>
-    requires widget { w < 32 }
     requires rest { life.old.turn ≡ None }
-    requires fine { FineLife shared.old w life.old }
-    requires held { IsFine w shared.old.store.cells value.now }
-    ensures noted { OnOk result ((s : State) → s.own.heap ≡ (own_of shared.old w life.old).heap
-        → own_of shared.new w life.new
-        ≡ noted (note_text s (seen w shared.old.store.cells value.now)) (own_of shared.old w life.old)) }
-    ensures fine { OnOk result (FineLife shared.new w life.new) }
-    ensures kept { KeepsLife w shared.old shared.new life.old life.new }
+    requires fine { FineLife shared.old id.index life.old }
+    requires held { IsFine id.index shared.old.store.cells value.now }
+    ensures noted { OnOk result ((s : State) → s.own.heap ≡ (own_of shared.old id.index life.old).heap
+        → own_of shared.new id.index life.new
+        ≡ noted (note_text s (seen id.index shared.old.store.cells value.now)) (own_of shared.old id.index life.old)) }
+    ensures fine { OnOk result (FineLife shared.new id.index life.new) }
+    ensures kept { KeepsLife id.index shared.old shared.new life.old life.new }
     ensures rest { life.new.turn ≡ life.old.turn }
     ensures queue { life.new.queue ≡ life.old.queue }
 {
-    let text = note_of(alloc, &shared.store, w, value)?;
-    keep_note(shared, w, life, text)
+    let text = note_of(alloc, &shared.store, id.index, value)?;
+    keep_note(shared, id, life, text)
 }

@@ -10,11 +10,10 @@ ghost use Rattle.life_picks.specs.Picking.{PicksLife, spent_to};
 use crate::notes::note;
 use code_units::Memory;
 use js_flow::Completion;
-use life_queue::{Life, begin_turn};
+use life_queue::{Life, Turn, begin_turn};
 use native_image::Shared;
 use pick_laws::Picked;
 use std::alloc::Global;
-use turn_returns::Turn;
 use turn_steps::{Ran, TurnEnd, run_turn};
 
 // The end of a turn: what it spent is counted, a throw that was not caught is noted, and a stop is kept.
@@ -25,7 +24,6 @@ fn close(
     how: TurnEnd,
     left: u32,
 ) -> Result<(), Memory>
-    requires widget { life.old.widget.id.index < 32 }
     requires rest { life.old.turn ≡ None }
     requires left { left ≤ life.old.grant }
     requires fine { FineLife shared.old life.old.widget.id.index (spent_to left life.old) }
@@ -40,9 +38,9 @@ fn close(
     ensures queue { life.new.queue ≡ life.old.queue }
 {
     life.records.spent += u64::from(life.grant - left);
-    let w = life.widget.id.index;
+    let id = life.widget.id;
     match how {
-        TurnEnd::Over(Completion::Throw(value)) => note(alloc, shared, w, life, &value),
+        TurnEnd::Over(Completion::Throw(value)) => note(alloc, shared, id, life, &value),
         TurnEnd::Over(_) => Ok(()),
         TurnEnd::Stop(stop) => {
             life.records.stop = Some(stop);
@@ -60,7 +58,6 @@ fn drop_turn(place: &mut Option<Turn>)
 
 // The turn of a life is carried on in its place, for so many units.
 fn go_on(alloc: Global, shared: &mut Shared, life: &mut Life, units: u32) -> Result<Picked, Memory>
-    requires widget { life.old.widget.id.index < 32 }
     requires units { 0 < units }
     requires running { is_some life.old.turn ≡ true }
     requires fine { FineLife shared.old life.old.widget.id.index life.old }
@@ -101,7 +98,6 @@ pub fn pick_life(
     life: &mut Life,
     units: u32,
 ) -> Result<Picked, Memory>
-    requires widget { life.old.widget.id.index < 32 }
     requires units { 0 < units }
     requires fine { FineLife shared.old life.old.widget.id.index life.old }
     ensures picked { IfOk result
@@ -112,8 +108,8 @@ pub fn pick_life(
     if life.turn.is_some() {
         return go_on(alloc, shared, life, units);
     }
-    let w = life.widget.id.index;
-    let begun = begin_turn(alloc, shared, w, life)?;
+    let id = life.widget.id;
+    let begun = begin_turn(alloc, shared, id, life)?;
     if begun {
         return go_on(alloc, shared, life, units);
     }

@@ -23,12 +23,12 @@ use Rattle.event_loop.specs.Timers as timers
 use Rattle.event_image.specs.Image.{Shows, after_due, timer_of}
 use Rattle.event_image.proofs.States.{due_image, due_shows}
 use Rattle.js_image.specs.Image.{Rest, image as store_image, seen}
-use Rattle.js_steps.specs.Answered.{remaining}
-use Rattle.js_steps.specs.declared.task.Task.{Task}
 use Rattle.native_image.specs.Image.{beside}
 use Rattle.native_image.specs.Sound.{HoldsOwn, IsOwnCell, IsSound}
 use Rattle.native_image.proofs.Joint.{image_shows, rest, shown_is}
 use Rattle.native_image.proofs.Keeping.{host_here, page_same}
+use Rattle.turn_dispatch.specs.Answered.{remaining}
+use Rattle.turn_dispatch.specs.Task.{Task}
 use Rattle.life_laws.specs.Life as todo
 use Rattle.life_laws.specs.Life.{Same, potentials, started, waiting}
 use Rattle.life_laws.proofs.Begins.{until_begins, until_none, until_stopped}

@@ -13,11 +13,11 @@ use Rattle.event_loop.specs.declared.delivery.Event.{Event as Told}
 use Rattle.js_image.specs.Plans.{meant_cause}
 use Rattle.js_names.specs.Code.{trees_of}
 use Rattle.js_flow.specs.Parts.{forest_at}
-use Rattle.js_steps.specs.declared.answer.Stop.{Stop}
-use Rattle.js_steps.specs.declared.answer.Stop.TheVariants as stop
 use Rattle.native_image.specs.Image.{Outside, beside, image}
 use Rattle.life_laws.specs.Life as todo
 use Rattle.life_laws.specs.Life.{Going, Seen}
+use Rattle.turn_dispatch.specs.Stop.{Stop}
+use Rattle.turn_dispatch.specs.Stop.TheVariants as stop
 use Rattle.turn_dispatch.specs.declared.level.Doing.{Doing}
 use Rattle.turn_dispatch.specs.Levels.{turn_plan}
 use Rattle.turn_returns.specs.declared.calls.Calls.{Calls}

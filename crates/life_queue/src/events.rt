@@ -143,27 +143,26 @@ fn opened(alloc: Global, heard: Heard) -> Result<(Doing, Calls), Memory>
 fn hear_event(
     alloc: Global,
     shared: &mut Shared,
-    w: u32,
+    id: WidgetId,
     life: &mut Life,
     event: (Event, NodeId),
     at: (NodeId, Vec<CellId>),
 ) -> Result<(), Memory>
-    requires widget { w < 32 }
     requires rests { life.old.turn ≡ None }
-    requires fine { FineLife shared.old w life.old }
-    requires own { owns shared.old.page w event.1 ≡ true }
+    requires fine { FineLife shared.old id.index life.old }
+    requires own { owns shared.old.page id.index event.1 ≡ true }
     requires near { (s : State)
-        → Shows shared.old.page w (own_count w shared.old.store.cells) life.old.widget.around s.own
-        → meaning.nearest s (Some (number shared.old.page w event.1)) event.0.kind
-        ≡ Some (number shared.old.page w at.0, map (own_count w shared.old.store.cells) at.1.items) }
-    requires node { owns shared.old.page w at.0 ≡ true }
-    requires functions { AllByRecursion (IsOwnCell w shared.old.store.cells) at.1.items }
+        → Shows shared.old.page id.index (own_count id.index shared.old.store.cells) life.old.widget.around s.own
+        → meaning.nearest s (Some (number shared.old.page id.index event.1)) event.0.kind
+        ≡ Some (number shared.old.page id.index at.0, map (own_count id.index shared.old.store.cells) at.1.items) }
+    requires node { owns shared.old.page id.index at.0 ≡ true }
+    requires functions { AllByRecursion (IsOwnCell id.index shared.old.store.cells) at.1.items }
     requires some { 0 < length at.1.items }
-    requires room { tally shared.old w life.old + 1 < 2 ^ 32 }
-    ensures starts { OnOk result (Starts shared.old shared.new w
-        (meaning.dispatch event.0.kind (number shared.old.page w event.1)
+    requires room { tally shared.old id.index life.old + 1 < 2 ^ 32 }
+    ensures starts { OnOk result (Starts shared.old shared.new id.index
+        (meaning.dispatch event.0.kind (number shared.old.page id.index event.1)
         (event_value event.0.value) 0) life.old life.new) }
-    ensures kept { KeepsLife w shared.old shared.new life.old life.new }
+    ensures kept { KeepsLife id.index shared.old shared.new life.old life.new }
     ensures none { OnErr result (life.new.turn ≡ None) }
 {
     let (event, node) = event;
@@ -173,7 +172,6 @@ fn hear_event(
         value: seen_value(&event.value)?,
         depth: 0,
     };
-    let id = WidgetId { index: w };
     let heard = hear(alloc, &mut shared.store, id, &shared.page, dispatch, at)?;
     let (doing, calls) = opened(alloc, heard)?;
     begin(life, doing, calls);
@@ -185,24 +183,23 @@ fn hear_event(
 fn reach(
     alloc: Global,
     shared: &mut Shared,
-    w: u32,
+    id: WidgetId,
     life: &mut Life,
     event: (Event, NodeId),
 ) -> Result<(), Memory>
-    requires widget { w < 32 }
     requires rests { life.old.turn ≡ None }
     requires live { life.old.records.stop ≡ None }
-    requires fine { FineLife shared.old w life.old }
-    requires own { owns shared.old.page w event.1 ≡ true }
-    requires leads { node_at (forest shared.old.page w) event.0.path.items ≡ Some (number shared.old.page w event.1) }
-    requires room { tally shared.old w life.old + 1 < 2 ^ 32 }
-    ensures taken { OnOk result (Takes shared.old shared.new w (work.Event event.0) life.old life.new) }
-    ensures kept { KeepsLife w shared.old shared.new life.old life.new }
+    requires fine { FineLife shared.old id.index life.old }
+    requires own { owns shared.old.page id.index event.1 ≡ true }
+    requires leads { node_at (forest shared.old.page id.index) event.0.path.items
+        ≡ Some (number shared.old.page id.index event.1) }
+    requires room { tally shared.old id.index life.old + 1 < 2 ^ 32 }
+    ensures taken { OnOk result (Takes shared.old shared.new id.index (work.Event event.0) life.old life.new) }
+    ensures kept { KeepsLife id.index shared.old shared.new life.old life.new }
     ensures none { OnErr result (life.new.turn ≡ None) }
 {
     let (event, node) = event;
-    set_value(alloc, &mut shared.page, w, node, &event.value)?;
-    let id = WidgetId { index: w };
+    set_value(alloc, &mut shared.page, id.index, node, &event.value)?;
     match listeners(
         alloc,
         id,
@@ -212,7 +209,7 @@ fn reach(
         &event.kind,
     )? {
         None => Ok(()),
-        Some(at) => hear_event(alloc, shared, w, life, (event, node), at),
+        Some(at) => hear_event(alloc, shared, id, life, (event, node), at),
     }
 }
 
@@ -221,24 +218,23 @@ fn reach(
 pub(crate) fn take_event(
     alloc: Global,
     shared: &mut Shared,
-    w: u32,
+    id: WidgetId,
     life: &mut Life,
     event: Event,
 ) -> Result<(), Memory>
-    requires widget { w < 32 }
     requires rests { life.old.turn ≡ None }
-    requires fine { FineLife shared.old w life.old }
-    requires room { tally shared.old w life.old + 1 < 2 ^ 32 }
-    ensures taken { OnOk result (Takes shared.old shared.new w (work.Event event) life.old life.new) }
-    ensures kept { KeepsLife w shared.old shared.new life.old life.new }
+    requires fine { FineLife shared.old id.index life.old }
+    requires room { tally shared.old id.index life.old + 1 < 2 ^ 32 }
+    ensures taken { OnOk result (Takes shared.old shared.new id.index (work.Event event) life.old life.new) }
+    ensures kept { KeepsLife id.index shared.old shared.new life.old life.new }
     ensures none { OnErr result (life.new.turn ≡ None) }
 {
     if life.records.stop.is_some() {
         life.records.gone += 1;
         return Ok(());
     }
-    match target(&shared.page, w, &event.path) {
-        Some(node) => reach(alloc, shared, w, life, (event, node)),
+    match target(&shared.page, id, &event.path) {
+        Some(node) => reach(alloc, shared, id, life, (event, node)),
         None => {
             life.records.missed += 1;
             Ok(())

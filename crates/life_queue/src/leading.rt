@@ -1,5 +1,5 @@
 //! The node to which the path of an event leads.
-ghost use Rattle.std.specs.Prelude.{◌≡◌, ◌<◌, Some, option_and_then, slice_get};
+ghost use Rattle.std.specs.Prelude.{◌≡◌, Some, option_and_then, slice_get};
 ghost use Rattle.query_grammar.specs.Renumbering.{renumbered};
 ghost use Rattle.widget_meaning.specs.Trees.{node_at};
 ghost use Rattle.page_nodes.specs.Entries.{at};
@@ -8,15 +8,15 @@ ghost use Rattle.page_image.specs.Held.{OptionIn};
 ghost use Rattle.page_image.specs.Image.{HasRoot, forest, number, owns, root_of};
 
 use code_units::Owner;
+use native_common::WidgetId;
 use page_tree::{NodeId, Page};
 
 // The root of a widget.
-fn root_of(page: &Page, w: u32) -> NodeId
-    requires widget { w < 32 }
-    requires home { HasRoot page.now w }
-    ensures { root_of page.now w ≡ Some result }
+fn root_of(page: &Page, id: WidgetId) -> NodeId
+    requires { HasRoot page.now id.index }
+    ensures { root_of page.now id.index ≡ Some result }
 {
-    match page.root_of(Owner::Widget(w)) {
+    match page.root_of(Owner::Widget(id.index)) {
         Some(root) => root,
         None => unreachable!(),
     }
@@ -35,16 +35,15 @@ fn child_of(page: &Page, w: u32, place: Option<NodeId>, step: u32) -> Option<Nod
 }
 
 /// The node of a widget to which child positions lead from its root, none where they lead to none.
-pub(crate) fn target(page: &Page, w: u32, path: &[u32]) -> Option<NodeId>
-    requires widget { w < 32 }
-    requires home { HasRoot page.now w }
-    ensures image { renumbered (number page.now w) result ≡ node_at (forest page.now w) path.now }
-    ensures own { OptionIn (owns page.now w) result }
+pub(crate) fn target(page: &Page, id: WidgetId, path: &[u32]) -> Option<NodeId>
+    requires { HasRoot page.now id.index }
+    ensures image { renumbered (number page.now id.index) result ≡ node_at (forest page.now id.index) path.now }
+    ensures own { OptionIn (owns page.now id.index) result }
 {
-    let root = root_of(page, w);
+    let root = root_of(page, id);
     let mut place = Some(root);
     'each: for step in path {
-        place = child_of(page, w, place, *step);
+        place = child_of(page, id.index, place, *step);
     }
     place
 }

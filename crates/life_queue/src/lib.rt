@@ -11,3 +11,5 @@ mod works;
 
 pub use life::{Life, Records, Script, Work};
 pub use queue::begin_turn;
+pub use turn_dispatch::Stop;
+pub use turn_returns::Turn;

@@ -2,11 +2,11 @@
 
 use code_units::Text;
 use event_loop::Event;
-use js_steps::Stop;
 use js_tree::FunId;
 use native_image::Widget;
 use object_store::CellId;
 use std::collections::VecDeque;
+use turn_dispatch::Stop;
 use turn_returns::Turn;
 
 /// What is recorded of a life. In a turn `spent` is what was spent when it began.

@@ -9,6 +9,7 @@ use crate::events::take_event;
 use crate::life::{Life, Work};
 use crate::works::{take_advance, take_go, take_library, take_until};
 use code_units::Memory;
+use native_common::WidgetId;
 use native_image::Shared;
 use std::alloc::Global;
 
@@ -16,25 +17,24 @@ use std::alloc::Global;
 fn take_work(
     alloc: Global,
     shared: &mut Shared,
-    w: u32,
+    id: WidgetId,
     life: &mut Life,
     work: Work,
 ) -> Result<(), Memory>
-    requires widget { w < 32 }
     requires rests { life.old.turn ≡ None }
-    requires fine { FineLife shared.old w life.old }
+    requires fine { FineLife shared.old id.index life.old }
     requires script { FineWork (trees_in shared.old) work }
-    requires room { tally shared.old w life.old + potential (work_of (trees_in shared.old) work) < 2 ^ 32 }
-    ensures taken { OnOk result (Takes shared.old shared.new w work life.old life.new) }
-    ensures kept { KeepsLife w shared.old shared.new life.old life.new }
+    requires room { tally shared.old id.index life.old + potential (work_of (trees_in shared.old) work) < 2 ^ 32 }
+    ensures taken { OnOk result (Takes shared.old shared.new id.index work life.old life.new) }
+    ensures kept { KeepsLife id.index shared.old shared.new life.old life.new }
     ensures none { OnErr result (life.new.turn ≡ None) }
 {
     match work {
-        Work::Library(script) => take_library(alloc, shared, w, life, &script),
-        Work::Go(script) => take_go(alloc, shared, w, life, &script),
-        Work::Event(event) => take_event(alloc, shared, w, life, event),
-        Work::Advance(ms) => take_advance(alloc, shared, w, life, ms),
-        Work::Until(turns, limit) => take_until(alloc, shared, w, life, (turns, limit)),
+        Work::Library(script) => take_library(alloc, shared, id, life, &script),
+        Work::Go(script) => take_go(alloc, shared, id, life, &script),
+        Work::Event(event) => take_event(alloc, shared, id, life, event),
+        Work::Advance(ms) => take_advance(alloc, shared, id, life, ms),
+        Work::Until(turns, limit) => take_until(alloc, shared, id, life, (turns, limit)),
     }
 }
 
@@ -43,18 +43,17 @@ fn take_work(
 pub fn begin_turn(
     alloc: Global,
     shared: &mut Shared,
-    w: u32,
+    id: WidgetId,
     life: &mut Life,
 ) -> Result<bool, Memory>
-    requires widget { w < 32 }
     requires rests { life.old.turn ≡ None }
-    requires fine { FineLife shared.old w life.old }
-    ensures begun { IfOk result (λ b. BeginsTurn shared.old shared.new w b life.old life.new) }
-    ensures kept { KeepsLife w shared.old shared.new life.old life.new }
+    requires fine { FineLife shared.old id.index life.old }
+    ensures begun { IfOk result (λ b. BeginsTurn shared.old shared.new id.index b life.old life.new) }
+    ensures kept { KeepsLife id.index shared.old shared.new life.old life.new }
     ensures none { OnErr result (life.new.turn ≡ None) }
 {
     'queue: while let Some(work) = life.queue.pop_front() {
-        take_work(alloc, shared, w, life, work)?;
+        take_work(alloc, shared, id, life, work)?;
         if life.turn.is_some() {
             return Ok(true);
         }

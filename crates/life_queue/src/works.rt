@@ -9,7 +9,7 @@ ghost use Rattle.page_tree.specs.declared.page.Page.{Page as PageOf};
 ghost use Rattle.js_image.specs.Held.{IsHeld};
 ghost use Rattle.js_image.specs.Image.{Rest, image, seen};
 ghost use Rattle.js_image.specs.Laws.{AreLawful};
-ghost use Rattle.js_steps.specs.Answered.{remaining};
+ghost use Rattle.turn_dispatch.specs.Answered.{remaining};
 ghost use Rattle.turn_dispatch.specs.Held.{FineTask};
 ghost use Rattle.life_queue.specs.Lives.{trees_in, work_of};
 ghost use Rattle.life_queue.specs.Fine.{FineLife, FineWork, KeepsLife, tally};
@@ -19,12 +19,11 @@ ghost use Rattle.life_queue.specs.declared.life.Work.TheVariants as work;
 use crate::begins::begin;
 use crate::life::{Life, Script, Work};
 use code_units::Memory;
-use js_steps::Task;
 use native_common::WidgetId;
 use native_image::Shared;
 use object_store::{CellId, HostEntry, Store, Value};
 use std::alloc::Global;
-use turn_dispatch::{Doing, Level, open_script};
+use turn_dispatch::{Doing, Level, Task, open_script};
 use turn_returns::Calls;
 
 // The laws of the store, together.
@@ -42,17 +41,16 @@ fn lawful(store: &Store)
 pub(crate) fn take_library(
     alloc: Global,
     shared: &mut Shared,
-    w: u32,
+    id: WidgetId,
     life: &mut Life,
     script: &Script,
 ) -> Result<(), Memory>
-    requires widget { w < 32 }
     requires rests { life.old.turn ≡ None }
-    requires fine { FineLife shared.old w life.old }
+    requires fine { FineLife shared.old id.index life.old }
     requires script { FineWork (trees_in shared.old) (work.Library script.now) }
-    requires room { tally shared.old w life.old + 1 < 2 ^ 32 }
-    ensures taken { OnOk result (Takes shared.old shared.new w (work.Library script.now) life.old life.new) }
-    ensures kept { KeepsLife w shared.old shared.new life.old life.new }
+    requires room { tally shared.old id.index life.old + 1 < 2 ^ 32 }
+    ensures taken { OnOk result (Takes shared.old shared.new id.index (work.Library script.now) life.old life.new) }
+    ensures kept { KeepsLife id.index shared.old shared.new life.old life.new }
     ensures none { OnErr result (life.new.turn ≡ None) }
 {
     if life.records.stop.is_some() {
@@ -61,7 +59,6 @@ pub(crate) fn take_library(
     let args = [Value::Ref(life.lib)];
     let mut levels = Vec::new(alloc);
     levels.push(Level::Keeps(life.lib, script.name.share()?))?;
-    let id = WidgetId { index: w };
     let doing = open_script(alloc, &mut shared.store, id, script.code, script.fun, &args)?;
     begin(
         life,
@@ -78,17 +75,16 @@ pub(crate) fn take_library(
 pub(crate) fn take_go(
     alloc: Global,
     shared: &mut Shared,
-    w: u32,
+    id: WidgetId,
     life: &mut Life,
     script: &Script,
 ) -> Result<(), Memory>
-    requires widget { w < 32 }
     requires rests { life.old.turn ≡ None }
-    requires fine { FineLife shared.old w life.old }
+    requires fine { FineLife shared.old id.index life.old }
     requires script { FineWork (trees_in shared.old) (work.Go script.now) }
-    requires room { tally shared.old w life.old + 1 < 2 ^ 32 }
-    ensures taken { OnOk result (Takes shared.old shared.new w (work.Go script.now) life.old life.new) }
-    ensures kept { KeepsLife w shared.old shared.new life.old life.new }
+    requires room { tally shared.old id.index life.old + 1 < 2 ^ 32 }
+    ensures taken { OnOk result (Takes shared.old shared.new id.index (work.Go script.now) life.old life.new) }
+    ensures kept { KeepsLife id.index shared.old shared.new life.old life.new }
     ensures none { OnErr result (life.new.turn ≡ None) }
 {
     if life.records.stop.is_some() {
@@ -99,7 +95,6 @@ pub(crate) fn take_go(
         Value::Ref(shared.store.host(HostEntry::Dom)),
         Value::Ref(life.lib),
     ];
-    let id = WidgetId { index: w };
     let doing = open_script(alloc, &mut shared.store, id, script.code, script.fun, &args)?;
     begin(
         life,
@@ -120,7 +115,7 @@ fn call(alloc: Global, w: u32, func: CellId) -> Result<Box<Task>, Memory>
     ensures fine { IfOk result (λ t. (fs : List Forest) (s : Cells) (p : PageOf) → IsHeld w s.cells func
         → FineTask fs w s p t.value) }
 {
-    let task = js_steps::begin(alloc, w, func, &[], 0)?;
+    let task = turn_dispatch::begin(alloc, w, func, &[], 0)?;
     Ok(Box::new(alloc, task)?)
 }
 
@@ -129,16 +124,15 @@ fn call(alloc: Global, w: u32, func: CellId) -> Result<Box<Task>, Memory>
 pub(crate) fn take_until(
     alloc: Global,
     shared: &Shared,
-    w: u32,
+    id: WidgetId,
     life: &mut Life,
     left: (u64, u64),
 ) -> Result<(), Memory>
-    requires widget { w < 32 }
     requires rests { life.old.turn ≡ None }
-    requires fine { FineLife shared.now w life.old }
-    requires room { tally shared.now w life.old + (left.0 + 1) < 2 ^ 32 }
-    ensures taken { OnOk result (Takes shared.now shared.now w (work.Until left.0 left.1) life.old life.new) }
-    ensures kept { KeepsLife w shared.now shared.now life.old life.new }
+    requires fine { FineLife shared.now id.index life.old }
+    requires room { tally shared.now id.index life.old + (left.0 + 1) < 2 ^ 32 }
+    ensures taken { OnOk result (Takes shared.now shared.now id.index (work.Until left.0 left.1) life.old life.new) }
+    ensures kept { KeepsLife id.index shared.now shared.now life.old life.new }
     ensures none { OnErr result (life.new.turn ≡ None) }
 {
     let (turns, limit) = left;
@@ -152,7 +146,7 @@ pub(crate) fn take_until(
     match life.widget.around.due(limit) {
         None => Ok(()),
         Some(timer) => {
-            let task = call(alloc, w, timer.func)?;
+            let task = call(alloc, id.index, timer.func)?;
             life.queue.push_front(Work::Until(turns - 1, limit))?;
             begin(
                 life,
@@ -171,16 +165,16 @@ pub(crate) fn take_until(
 pub(crate) fn take_advance(
     alloc: Global,
     shared: &Shared,
-    w: u32,
+    id: WidgetId,
     life: &mut Life,
     ms: u32,
 ) -> Result<(), Memory>
-    requires widget { w < 32 }
     requires rests { life.old.turn ≡ None }
-    requires fine { FineLife shared.now w life.old }
-    requires room { tally shared.now w life.old + potential (work_of (trees_in shared.now) (work.Advance ms)) < 2 ^ 32 }
-    ensures taken { OnOk result (Takes shared.now shared.now w (work.Advance ms) life.old life.new) }
-    ensures kept { KeepsLife w shared.now shared.now life.old life.new }
+    requires fine { FineLife shared.now id.index life.old }
+    requires room { tally shared.now id.index life.old
+        + potential (work_of (trees_in shared.now) (work.Advance ms)) < 2 ^ 32 }
+    ensures taken { OnOk result (Takes shared.now shared.now id.index (work.Advance ms) life.old life.new) }
+    ensures kept { KeepsLife id.index shared.now shared.now life.old life.new }
     ensures none { OnErr result (life.new.turn ≡ None) }
 {
     if life.records.stop.is_some() {
@@ -191,5 +185,5 @@ pub(crate) fn take_advance(
         return Err(Memory);
     }
     let turns = 64 * (ms as u64 / 10 + 2);
-    take_until(alloc, shared, w, life, (turns, clock + ms as u64))
+    take_until(alloc, shared, id, life, (turns, clock + ms as u64))
 }

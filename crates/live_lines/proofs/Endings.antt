@@ -3,10 +3,10 @@ use Rattle.std.proofs.Common.{◌≡◌, ◌≤◌, ◌<◌, ◌^◌, ◌-◌, �
 use Rattle.std.proofs.lemmas.Bool.{cases_lt}
 use Rattle.host_io.specs.Files.{Rose}
 use Rattle.host_io.specs.Sink.{with_bytes}
+use Rattle.page_live.specs.findings.Findings.{Findings}
+use Rattle.page_live.specs.Findings.{found_refused}
 use Rattle.run_steps.specs.declared.ending.Status.{Status}
 use Rattle.run_steps.specs.declared.ending.Status.TheVariants as status
-use Rattle.page_play.specs.declared.findings.Findings.{Findings}
-use Rattle.page_play.specs.Findings.{found_refused}
 use Rattle.live_text.specs.Answer.{full_text}
 use Rattle.live_lines.specs.Transcript.{Closed, shut, no_room, cut, ending}
 use Rattle.live_lines.specs.Outcome.{Ends, is_early}

@@ -21,10 +21,6 @@ use Rattle.page_plan.specs.Pages.{PagePiece}
 use Rattle.page_check.specs.Runs.{SlotRun, pieces}
 use Rattle.slot_lives.specs.Ends.{end_of, run_name}
 use Rattle.slot_lives.specs.Outcome.{IsReport}
-use Rattle.widget_host.specs.declared.items.HostItem.{HostItem}
-use Rattle.page_play.specs.Findings.{AreEven, found_refused}
-use Rattle.page_play.specs.Settled.{said_of}
-use Rattle.page_play.specs.Swaps.{swap_slots}
 use Rattle.live_text.specs.declared.request.Request.TheVariants as request
 use Rattle.live_text.specs.declared.answer.Cause.{Cause}
 use Rattle.live_text.specs.declared.answer.Cause.TheVariants as cause
@@ -32,6 +28,10 @@ use Rattle.live_text.specs.declared.request.Request.{Request}
 use Rattle.live_text.specs.declared.request.RequestFault.TheVariants as fault
 use Rattle.live_text.specs.Request.{IsRequest, IsRequestFault, ReadsRequest}
 use Rattle.live_text.specs.Answer.{answer_text, refused_text, shown}
+use Rattle.page_live.specs.Findings.{AreEven, found_refused}
+use Rattle.page_live.specs.Settled.{said_of}
+use Rattle.page_live.specs.Swaps.{swap_slots}
+use Rattle.page_live.specs.HostItem.{HostItem}
 use Rattle.page_live.specs.declared.page.LivePage.{LivePage}
 use Rattle.page_live.specs.declared.session.Session.{Session}
 use Rattle.page_live.specs.Page.{AppendsAnswer, AreRenewed, IsAlive, IsLiveReport, Lives, Shows, picked, touched_by}

@@ -10,9 +10,9 @@ use Rattle.manifest_reader.specs.Page.{Part}
 use Rattle.run_steps.specs.declared.ending.Status.{Status}
 use Rattle.run_steps.specs.declared.ending.Status.TheVariants as status
 use Rattle.page_check.specs.Runs.{SlotRun}
-use Rattle.page_play.specs.Findings.{found_refused}
 use Rattle.slot_lives.specs.Ends.{end_of}
 use Rattle.live_text.specs.Answer.{full_text}
+use Rattle.page_live.specs.Findings.{found_refused}
 use Rattle.page_live.specs.declared.session.Session.{Session}
 use Rattle.live_lines.specs.Transcript.{State, StandsAt, Answered, Answers, a_refusal, a_report, a_reply, too_long, no_json, no_request, Serves, no_line, a_line, Served, at_end, full, no_memory, not_read, not_written, not_shut, IsEnding, Closed, shut, no_room, cut, ending}
 use Rattle.page_live.proofs.Showing.{live_comes}

@@ -13,8 +13,8 @@ use Rattle.run_steps.specs.Steps.{NoFiles, NoManifest}
 use Rattle.run_steps.specs.Reading.{HasPageFiles, ReadsFiles}
 use Rattle.widget_meaning.specs.OwnState.{OwnState}
 use Rattle.page_check.specs.Runs.{SlotRun, pieces}
-use Rattle.page_play.specs.declared.findings.Findings.{Findings}
 use Rattle.live_text.specs.Answer.{Shown}
+use Rattle.page_live.specs.findings.Findings.{Findings}
 use Rattle.page_live.specs.declared.page.LivePage.{LivePage}
 use Rattle.page_live.specs.Page.{AppendsFirst, ComesTo, Lives, parts_in, runs_of}
 use Rattle.live_lines.specs.Transcript.{AsksSwap, Served, State}

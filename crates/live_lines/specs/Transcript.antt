@@ -16,15 +16,15 @@ use Rattle.widget_meaning.specs.OwnState.{OwnState}
 use Rattle.page_check.specs.Runs.{SlotRun}
 use Rattle.slot_lives.specs.Ends.{run_name}
 use Rattle.slot_lives.specs.Outcome.{IsReport}
-use Rattle.page_play.specs.declared.findings.Findings.{Findings}
-use Rattle.page_play.specs.Findings.{found_refused}
-use Rattle.page_play.specs.Swaps.{swap_slots}
 use Rattle.live_text.specs.declared.request.Request.{Request}
 use Rattle.live_text.specs.declared.request.Request.TheVariants as request
 use Rattle.live_text.specs.declared.answer.Cause.{Cause}
 use Rattle.live_text.specs.declared.answer.Cause.TheVariants as cause
 use Rattle.live_text.specs.Request.{IsRequest, ReadsRequest}
 use Rattle.live_text.specs.Answer.{Shown, answer_text, full_text, refused_text, shown}
+use Rattle.page_live.specs.findings.Findings.{Findings}
+use Rattle.page_live.specs.Findings.{found_refused}
+use Rattle.page_live.specs.Swaps.{swap_slots}
 use Rattle.page_live.specs.declared.page.LivePage.{LivePage}
 use Rattle.page_live.specs.declared.session.Session.{Session}
 use Rattle.page_live.specs.Page.{ComesTo, IsLiveReport, Lives, AreRenewed, picked, touched_by}

@@ -10,12 +10,11 @@ use code_units::Memory;
 use event_loop::Event;
 use host_io::Files;
 use live_text::{Cause, Request, RequestFault, one_request, push_refused, read_request};
-use page_live::Session;
+use page_live::{HostItem, Session};
 use run_steps::{FILE_LIMIT, NoReport, read_file};
 use slot_check::SourceFile;
 use std::alloc::Global;
 use trace_reader::TraceItem;
-use widget_host::HostItem;
 
 /// The bytes that a line may have.
 pub const LINE_LIMIT: usize = 1_048_576;

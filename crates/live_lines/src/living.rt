@@ -4,7 +4,7 @@ ghost use Rattle.host_io.specs.Files.{Rose};
 ghost use Rattle.run_steps.specs.Page.{texts};
 ghost use Rattle.run_steps.specs.Reading.{HasPageFiles};
 ghost use Rattle.run_steps.specs.Ends.{Stepped};
-ghost use Rattle.page_play.specs.Findings.{found_refused};
+ghost use Rattle.page_live.specs.Findings.{found_refused};
 ghost use Rattle.page_live.specs.Page.{IsAlive};
 ghost use Rattle.live_lines.specs.Transcript.{Closed, ServedOn, Stands, ending};
 ghost use Rattle.live_lines.specs.Outcome.{Ends, HasLiveFiles, IsLiveForm, IsOpened, IsSwapThere, LiveOutcome, NoPage, RanOn, is_early, none_failed};
@@ -15,8 +15,7 @@ use host_io::{Files, ReadFail, Sink, write_whole};
 use line_io::Lines;
 use live_text::push_full;
 use page_check::read_manifests_fit;
-use page_live::{LivePage, Session};
-use page_play::some_refused;
+use page_live::{LivePage, Session, some_refused};
 use run_steps::{NoReport, Status, files_of, manifest_in, slot_names, status_of};
 use std::alloc::Global;
 

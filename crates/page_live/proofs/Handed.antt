@@ -15,8 +15,8 @@ use Rattle.page_plan.specs.declared.SlotContent.{SlotContent}
 use Rattle.page_plan.specs.declared.SlotSpec.{SlotSpec}
 use Rattle.slot_lives.specs.Lives.{is_swap, last_life, last_of, swaps_in}
 use Rattle.slot_lives.proofs.LawsHold.{life_laws}
-use Rattle.widget_host.specs.declared.items.HostItem.{HostItem}
-use Rattle.widget_host.specs.Given.{begun, gives_to, with_item, with_items, with_swap}
+use Rattle.page_play.specs.HostItem.{HostItem}
+use Rattle.page_play.specs.Given.{begun, gives_to, with_item, with_items, with_swap}
 use Rattle.page_play.specs.Played.{name_of, fed_of, begun_from, begun_in, ended_from, ended_in}
 use Rattle.page_play.specs.Playing.{fuel_of}
 use Rattle.page_play.proofs.Begun.{begun_none, begun_item, begun_swap, ended_item, ended_swap}

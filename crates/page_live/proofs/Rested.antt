@@ -13,10 +13,10 @@ use Rattle.round_laws.specs.Fed.{Fed, RoundsTo, ended, again, fed_on, fresh, rou
 use Rattle.page_plan.specs.declared.PageSpec.{PageSpec}
 use Rattle.page_plan.specs.declared.SlotContent.{SlotContent}
 use Rattle.page_plan.specs.Pages.{piece_of}
-use Rattle.widget_host.specs.declared.host.Host.{Host}
-use Rattle.widget_host.specs.Given.{AreRetired}
-use Rattle.widget_host.specs.Housed.{AreShown, IsHoused, KeepsHost, accepts, chains, channels, ends, given, marked, names, seens}
-use Rattle.widget_host.specs.Rounds.{AreFed, is_last}
+use Rattle.page_play.specs.Host.{Host}
+use Rattle.page_play.specs.Given.{AreRetired}
+use Rattle.page_play.specs.Housed.{AreShown, IsHoused, KeepsHost, accepts, chains, channels, ends, given, marked, names, seens}
+use Rattle.page_play.specs.Rounds.{AreFed, is_last}
 use Rattle.page_play.specs.Played.{name_of, HasScriptsOf, HaveScriptsOf}
 use Rattle.page_play.proofs.Chained.{singles_lasts, alone_listed, alone_twice}
 use Rattle.page_play.proofs.Scripted.{have_stay}

@@ -13,7 +13,7 @@ use Rattle.page_plan.specs.Pages.{page_of, piece_of, roots}
 use Rattle.page_check.specs.Runs.{SlotRun, pieces}
 use Rattle.slot_lives.specs.Ends.{end_of, run_name}
 use Rattle.slot_lives.specs.Outcome.{IsReport, Outcome}
-use Rattle.widget_host.specs.Housed.{IsLaid}
+use Rattle.page_play.specs.Housed.{IsLaid}
 use Rattle.page_play.specs.Findings.{ended_told, found_refused, lasts_told, lines_of}
 use Rattle.page_play.specs.Played.{begun_in, ended_in, IsPlayed}
 use Rattle.page_play.specs.Told.{AreTold, Reports}

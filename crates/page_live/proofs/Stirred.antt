@@ -23,14 +23,13 @@ use Rattle.page_plan.specs.Pages.{piece_of}
 use Rattle.slot_lives.specs.Lives.{swaps_in}
 use Rattle.slot_lives.specs.LifeLaws.{new_life}
 use Rattle.slot_lives.specs.Ends.{end_of}
-use Rattle.widget_host.specs.declared.host.Host.{Host}
-use Rattle.widget_host.specs.declared.items.HostItem.{HostItem}
-use Rattle.page_load.specs.Loads.{singles}
-use Rattle.slot_picks.specs.declared.lives.Place.{Place}
-use Rattle.slot_picks.specs.Places.{accepts_of}
-use Rattle.widget_host.specs.Given.{AreEnded, AreRetired, begins, begun, gives_to, with_item, with_items, with_swap}
-use Rattle.widget_host.specs.Housed.{GivesItem, GivesSwap, IsHoused, IsLaid, Loads, accepts, chains, channels, ends, fuels, given, homes, libraries, marked, names, newborn, scripts, seens, told}
-use Rattle.widget_host.specs.Rounds.{AreFed, is_last}
+use Rattle.page_play.specs.Place.{Place}
+use Rattle.page_play.specs.Places.{accepts_of}
+use Rattle.page_play.specs.Host.{Host}
+use Rattle.page_play.specs.HostItem.{HostItem}
+use Rattle.page_play.specs.Given.{AreEnded, AreRetired, begins, begun, gives_to, with_item, with_items, with_swap}
+use Rattle.page_play.specs.Housed.{GivesItem, GivesSwap, IsHoused, IsLaid, Loads, accepts, chains, channels, ends, fuels, given, homes, libraries, marked, names, newborn, scripts, seens, singles, told}
+use Rattle.page_play.specs.Rounds.{AreFed, is_last}
 use Rattle.page_play.specs.Played.{name_of, HasScriptsOf, HaveScriptsOf}
 use Rattle.page_play.specs.Playing.{fuel_of}
 use Rattle.page_play.specs.Settled.{said_of}

@@ -21,10 +21,10 @@ use Rattle.page_check.specs.declared.libraries.Later.{Later}
 use Rattle.page_check.specs.Runs.{SlotRun, swap_run, swap_runs, with_file}
 use Rattle.page_check.specs.Judged.{AreJudgedSwaps, IsJudged, JudgesOn, no_swap, one_swap}
 use Rattle.slot_lives.specs.Ends.{run_name}
-use Rattle.widget_host.specs.declared.host.Host.{Host}
-use Rattle.widget_host.specs.declared.items.HostItem.{HostItem}
-use Rattle.widget_host.specs.declared.items.HostItem.TheVariants as host
-use Rattle.widget_host.specs.Housed.{IsItem, chains, ends, libraries, names}
+use Rattle.page_play.specs.Host.{Host}
+use Rattle.page_play.specs.HostItem.{HostItem}
+use Rattle.page_play.specs.HostItem.TheVariants as host
+use Rattle.page_play.specs.Housed.{IsItem, chains, ends, libraries, names}
 use Rattle.page_play.specs.Swaps.{swap_slots, swap_positions}
 use Rattle.page_play.specs.Settled.{said_of}
 use Rattle.page_play.proofs.Outcomes.{judged_even, judged_names}

@@ -7,9 +7,9 @@ use Rattle.slot_laws.specs.Chains.{last_at, last_life}
 use Rattle.page_plan.specs.declared.PageSpec.{PageSpec}
 use Rattle.page_plan.specs.declared.SlotContent.{SlotContent}
 use Rattle.slot_lives.specs.Ends.{end_of}
-use Rattle.widget_host.specs.declared.host.Host.{Host}
-use Rattle.widget_host.specs.Given.{AreRetired}
-use Rattle.widget_host.specs.Housed.{chains, ends}
+use Rattle.page_play.specs.Host.{Host}
+use Rattle.page_play.specs.Given.{AreRetired}
+use Rattle.page_play.specs.Housed.{chains, ends}
 use Rattle.page_play.specs.Played.{HasScriptsOf, HaveScriptsOf, IsPlayed}
 use Rattle.page_live.specs.Living.{IsLive, Rounds}
 use Rattle.page_live.proofs.Handed.{same_lives, still_rounds}

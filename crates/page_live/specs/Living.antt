@@ -14,12 +14,11 @@ use Rattle.page_plan.specs.Pages.{piece_of}
 use Rattle.adsafe_rules.specs.Accepts.{tree_of}
 use Rattle.slot_lives.specs.Lives.{swaps_in}
 use Rattle.slot_lives.specs.Ends.{end_of}
-use Rattle.widget_host.specs.declared.host.Host.{Host}
-use Rattle.widget_host.specs.declared.items.HostItem.{HostItem}
-use Rattle.page_load.specs.Loads.{singles}
-use Rattle.widget_host.specs.Given.{AreRetired, begins, begun, with_item, with_swap}
-use Rattle.widget_host.specs.Housed.{IsHoused, IsLaid, AreShown, accepts, chains, channels, ends, fuels, given, libraries, marked, names, newborn, seens}
-use Rattle.widget_host.specs.Rounds.{AreFed}
+use Rattle.page_play.specs.Host.{Host}
+use Rattle.page_play.specs.HostItem.{HostItem}
+use Rattle.page_play.specs.Given.{AreRetired, begins, begun, with_item, with_swap}
+use Rattle.page_play.specs.Housed.{IsHoused, IsLaid, AreShown, accepts, chains, channels, ends, fuels, given, libraries, marked, names, newborn, seens, singles}
+use Rattle.page_play.specs.Rounds.{AreFed}
 use Rattle.page_play.specs.Played.{name_of, HaveScriptsOf}
 use Rattle.page_play.specs.Playing.{fuel_of}
 use Rattle.page_play.specs.Settled.{said_of}

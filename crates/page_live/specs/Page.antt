@@ -16,7 +16,7 @@ use Rattle.page_plan.specs.Pages.{PagePiece, page_of, piece_of, root_of, roots}
 use Rattle.page_check.specs.Runs.{SlotRun, pieces, runs_over, slots_named}
 use Rattle.page_check.specs.Judged.{JudgesOver}
 use Rattle.slot_lives.specs.Ends.{end_of}
-use Rattle.widget_host.specs.Housed.{IsLaid}
+use Rattle.page_play.specs.Housed.{IsLaid}
 use Rattle.page_play.specs.declared.findings.Findings.{Findings}
 use Rattle.page_play.specs.Findings.{Told, AreFindings, ended_told, found_after, lasts_told, line_of, lines_of}
 use Rattle.page_play.specs.Told.{AreTold}

@@ -4,16 +4,16 @@ ghost use Rattle.trace_reader.specs.Said.{Said, a_swap};
 ghost use Rattle.page_plan.specs.Loadable.{IsLoadable, IsSwapLoadable};
 ghost use Rattle.page_plan.specs.declared.PageSpec.{PageSpec as PageSpecOf};
 ghost use Rattle.page_plan.specs.declared.SlotContent.{SlotContent as SlotContentOf};
-ghost use Rattle.widget_host.specs.Housed.{IsHoused, IsItem, chains, ends, given, libraries, marked, names};
+ghost use Rattle.page_play.specs.Housed.{IsHoused, IsItem, chains, ends, given, libraries, marked, names};
 ghost use Rattle.page_play.specs.Settled.{said_of};
 ghost use Rattle.page_live.specs.Living.{IsLive};
 
 use code_units::Memory;
 use keyed_names::Keys;
 use page_plan::{PageSpec, SlotContent};
+use page_play::{Host, HostItem, given_lives, loaded_lives, swapped_lives};
 use std::alloc::Global;
 use turn_sched::RoundRobin;
-use widget_host::{Host, HostItem, given_lives, loaded_lives, swapped_lives};
 
 /// A host of this page: it is loaded, and rounds of posts follow to their end. The keys are those of
 /// `Host::load`, and a

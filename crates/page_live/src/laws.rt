@@ -3,7 +3,7 @@ ghost use Rattle.std.specs.Prelude.{◌≡◌, [], List};
 ghost use Rattle.trace_reader.specs.Said.{Said};
 ghost use Rattle.page_plan.specs.declared.PageSpec.{PageSpec};
 ghost use Rattle.page_plan.specs.declared.SlotContent.{SlotContent};
-ghost use Rattle.widget_host.specs.declared.host.Host.{Host};
+ghost use Rattle.page_play.specs.Host.{Host};
 ghost use Rattle.page_play.specs.Played.{IsPlayed};
 ghost use Rattle.page_live.specs.Living.{IsLive};
 

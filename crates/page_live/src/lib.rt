@@ -11,4 +11,5 @@ mod session;
 pub use hosting::{give_item, give_swap, load_page};
 pub use laws::live_pages;
 pub use page::LivePage;
+pub use page_play::{HostItem, some_refused};
 pub use session::Session;

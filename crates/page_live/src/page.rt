@@ -6,8 +6,8 @@ ghost use Rattle.slot_check.specs.Sources.{Source};
 ghost use Rattle.slot_check.specs.Verdicts.{source_of, sources_of, IsSmall};
 ghost use Rattle.page_check.specs.Fits.{IsFit};
 ghost use Rattle.page_check.specs.Runs.{SlotRun};
-ghost use Rattle.widget_host.specs.Housed.{IsItem};
 ghost use Rattle.slot_lives.specs.Outcome.{IsReport};
+ghost use Rattle.page_play.specs.Housed.{IsItem};
 ghost use Rattle.page_play.specs.Findings.{found_refused};
 ghost use Rattle.page_play.specs.Settled.{said_of};
 ghost use Rattle.page_live.specs.Page.{IsAlive, IsLiveReport, Lives, names_in, parts_in, runs_of};
@@ -17,10 +17,9 @@ use code_units::{Memory, Text};
 use keyed_names::Keys;
 use manifest_reader::Manifest;
 use page_check::{JudgedPage, Later, judge_page};
-use page_play::{Findings, Swaps, report_of};
+use page_play::{Findings, Host, HostItem, Swaps, report_of};
 use slot_check::{Refusal, SourceFile};
 use std::alloc::Global;
-use widget_host::{Host, HostItem};
 
 /// A page that has done with its items, and takes more of them.
 #[derive(Drop)]

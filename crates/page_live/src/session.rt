@@ -8,7 +8,7 @@ ghost use Rattle.slot_check.specs.Verdicts.{source_of, IsSmall};
 ghost use Rattle.widget_meaning.specs.OwnState.{OwnState};
 ghost use Rattle.page_plan.specs.Pages.{PagePiece, page_of, roots};
 ghost use Rattle.page_check.specs.Runs.{SlotRun};
-ghost use Rattle.widget_host.specs.Housed.{IsItem};
+ghost use Rattle.page_play.specs.Housed.{IsItem};
 ghost use Rattle.page_play.specs.Settled.{said_of};
 ghost use Rattle.page_play.specs.Told.{AppendsPage};
 ghost use Rattle.live_text.specs.Answer.{shown, slot_text};
@@ -18,10 +18,10 @@ use crate::entries::{entries, flagged, renew};
 use crate::page::LivePage;
 use code_units::Memory;
 use live_text::{Entry, push_answer, push_slot};
+use page_play::HostItem;
 use slot_check::SourceFile;
 use std::alloc::Global;
 use trace_text::{Line, report_line};
-use widget_host::HostItem;
 
 /// A page that lives, and what was written for each of its slots last.
 #[derive(Drop)]

@@ -25,7 +25,7 @@ use Rattle.life_laws.specs.Life.{Seen, potentials}
 use Rattle.slot_laws.specs.Settled.{flag}
 use Rattle.slot_laws.proofs.Passing.{get_other}
 use Rattle.native_image.specs.declared.handed.Shared.{Shared}
-use Rattle.turn_returns.specs.declared.turn.Turn.{Turn}
+use Rattle.life_queue.specs.Turn.{Turn}
 use Rattle.life_queue.specs.Fine.{FineLife, FineTurn, KeepsCells, most_fuel, tally}
 use Rattle.life_queue.specs.Lives.{life_seen}
 use Rattle.life_queue.proofs.Apart.{LeavesPage, fine_left, holds_left, seen_left, turn_left}

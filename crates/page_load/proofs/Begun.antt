@@ -32,8 +32,8 @@ use Rattle.native_image.proofs.Added.{raw_stays}
 use Rattle.native_image.proofs.Keeping.{page_same}
 use Rattle.life_laws.specs.Life.{potentials, waiting}
 use Rattle.native_image.specs.declared.handed.Shared.{Shared}
-use Rattle.turn_returns.specs.declared.turn.Turn.{Turn}
 use Rattle.native_image.specs.declared.handed.Widget.{Widget}
+use Rattle.life_queue.specs.Turn.{Turn}
 use Rattle.life_queue.specs.declared.life.Life.{Life}
 use Rattle.life_queue.specs.Lives.{going_of, life_seen, meant_stop, own_of, post_of, trees_in, work_of, works_of}
 use Rattle.life_queue.specs.Fine.{FineLife, FineTurn, FineWork, KeepsCells, held_back, most_fuel, tally}

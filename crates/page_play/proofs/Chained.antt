@@ -5,7 +5,7 @@ use Rattle.pick_laws.specs.Journal.{on_at}
 use Rattle.slot_laws.specs.Slots.{Each, has}
 use Rattle.slot_laws.specs.Chains.{Chains, joins, last_at, last_from, last_life, listed}
 use Rattle.slot_laws.proofs.Passing.{has_append}
-use Rattle.page_load.specs.Loads.{singles}
+use Rattle.widget_host.specs.Housed.{singles}
 use Rattle.widget_host.specs.Rounds.{is_last}
 
 if_yes : {A : Type 0} (b : Bool) (x y : A) → b ≡ true → (if b then x else y) ≡ x

@@ -26,9 +26,8 @@ use Rattle.slot_lives.proofs.LawsHold.{life_laws}
 use Rattle.widget_host.specs.declared.host.Host.{Host}
 use Rattle.widget_host.specs.declared.items.HostItem.{HostItem}
 use Rattle.widget_host.specs.declared.items.HostItem.TheVariants as host
-use Rattle.page_load.specs.Loads.{singles}
 use Rattle.widget_host.specs.Given.{AreEnded, begins, begun, with_item, with_swap}
-use Rattle.widget_host.specs.Housed.{GivesItem, GivesSwap, IsHoused, Loads, LoadsLife, accepts, chains, channels, ends, fuels, given, homes, journal, libraries, marked, names, newborn, scripts, seens}
+use Rattle.widget_host.specs.Housed.{GivesItem, GivesSwap, IsHoused, Loads, LoadsLife, accepts, chains, channels, ends, fuels, given, homes, journal, libraries, marked, names, newborn, scripts, seens, singles}
 use Rattle.widget_host.specs.Rounds.{AreFed, is_last}
 use Rattle.page_play.specs.Played.{name_of, fed_of, begun_in, ended_in, HasScriptsOf, HaveScriptsOf}
 use Rattle.page_play.specs.Playing.{fuel_of, Plays}

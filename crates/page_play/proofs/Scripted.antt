@@ -13,9 +13,8 @@ use Rattle.page_plan.specs.declared.SlotContent.{SlotContent}
 use Rattle.page_plan.specs.declared.SlotContent.TheVariants as slot
 use Rattle.page_plan.specs.Contents.{content_of, program_at}
 use Rattle.slot_lives.specs.Lives.{Life}
-use Rattle.page_load.specs.Loads.{HasScripts}
 use Rattle.widget_host.specs.declared.host.Host.{Host}
-use Rattle.widget_host.specs.Housed.{scripts}
+use Rattle.widget_host.specs.Housed.{HasScripts, scripts}
 use Rattle.page_play.specs.Played.{fed_of, AreScriptsOf, HasScriptsOf, HaveScriptsOf}
 
 none_some : {A : Type 0} {a : A} → None ≡ Some a → ⊥

@@ -1,3 +1,11 @@
+pub use Rattle.widget_host.specs.declared.host.Host
+pub use Rattle.widget_host.specs.declared.items.HostItem
+pub use Rattle.widget_host.specs.declared.lines.RunLine
+pub use Rattle.widget_host.specs.Given
+pub use Rattle.widget_host.specs.Housed
+pub use Rattle.widget_host.specs.Place
+pub use Rattle.widget_host.specs.Places
+pub use Rattle.widget_host.specs.Rounds
 pub mod Swaps
 pub mod Findings
 pub mod Played

@@ -20,9 +20,8 @@ use Rattle.slot_lives.specs.Lives as lives
 use Rattle.slot_lives.specs.Lives.{Life, swaps_in}
 use Rattle.slot_lives.specs.Ends.{end_of}
 use Rattle.widget_host.specs.declared.host.Host.{Host}
-use Rattle.page_load.specs.Loads.{singles}
 use Rattle.widget_host.specs.Given.{AreRetired}
-use Rattle.widget_host.specs.Housed.{IsHoused, IsLaid, AreShown, accepts, chains, channels, ends, given, marked, names, scripts, seens}
+use Rattle.widget_host.specs.Housed.{IsHoused, IsLaid, AreShown, accepts, chains, channels, ends, given, marked, names, scripts, seens, singles}
 
 -- ## What is given
 

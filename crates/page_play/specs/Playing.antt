@@ -14,9 +14,8 @@ use Rattle.page_plan.specs.Loadable.{IsSwapLoadable}
 use Rattle.page_plan.specs.Pages.{piece_of}
 use Rattle.slot_lives.specs.Lives.{last_life, swaps_in}
 use Rattle.widget_host.specs.declared.host.Host.{Host}
-use Rattle.page_load.specs.Loads.{singles}
 use Rattle.widget_host.specs.Given.{AreEnded}
-use Rattle.widget_host.specs.Housed.{IsHoused, IsLaid, Loads, accepts, chains, channels, ends, fuels, given, homes, journal, libraries, marked, names, seens}
+use Rattle.widget_host.specs.Housed.{IsHoused, IsLaid, Loads, accepts, chains, channels, ends, fuels, given, homes, journal, libraries, marked, names, seens, singles}
 use Rattle.widget_host.specs.Rounds.{AreFed, is_last}
 use Rattle.page_play.specs.Played.{name_of, fed_of, begun_in, ended_in, HasScriptsOf, HaveScriptsOf}
 use Rattle.page_play.specs.Settled.{GivesAll}

@@ -13,3 +13,4 @@ pub use laws::plays_come_to;
 pub use lines::{refused_line, run_text};
 pub use playing::play;
 pub use reports::{certificate, last_line, report, report_of};
+pub use widget_host::{Host, HostItem, given_lives, loaded_lives, swapped_lives};

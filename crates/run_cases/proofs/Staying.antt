@@ -5,10 +5,9 @@ use Rattle.std.proofs.lemmas.List.{length-map}
 use Rattle.page_plan.specs.declared.SlotContent.{SlotContent}
 use Rattle.page_plan.specs.declared.PageSpec.{PageSpec}
 use Rattle.page_plan.specs.Loadable.{AreLoadableSwaps, IsLoadable, IsSwapLoadable, more, none, names_of}
-use Rattle.widget_host.specs.declared.host.Host.{Host}
-use Rattle.widget_host.specs.declared.items.HostItem.{HostItem}
-use Rattle.page_load.specs.Loads.{singles}
-use Rattle.widget_host.specs.Housed.{GivesItem, GivesSwap, IsHoused, KeepsHost, Loads, chains, ends, given, libraries, names}
+use Rattle.adhost_run.specs.Host.{Host}
+use Rattle.adhost_run.specs.HostItem.{HostItem}
+use Rattle.adhost_run.specs.Housed.{GivesItem, GivesSwap, IsHoused, KeepsHost, Loads, chains, ends, given, libraries, names, singles}
 use Rattle.run_cases.specs.declared.hosts.Hosted.{Hosted}
 use Rattle.run_cases.specs.declared.hosts.Loading.{Loading}
 use Rattle.run_cases.specs.Ready.{Fits, IsLeft, IsLoading, IsReady}

@@ -2,8 +2,8 @@
 use Rattle.std.specs.Prelude.{◌≡◌, ℕ, List, [], IfSome, Some, length, slice_get}
 use Rattle.page_plan.specs.declared.SlotContent.{SlotContent}
 use Rattle.page_plan.specs.Loadable.{IsLoadable, IsSwapLoadable, names_of}
-use Rattle.widget_host.specs.Housed.{IsHoused, chains, ends, given, libraries, names}
-use Rattle.widget_host.specs.declared.host.Host.{Host}
+use Rattle.adhost_run.specs.Housed.{IsHoused, chains, ends, given, libraries, names}
+use Rattle.adhost_run.specs.Host.{Host}
 use Rattle.run_cases.specs.declared.hosts.Hosted.{Hosted}
 use Rattle.run_cases.specs.declared.hosts.Loading.{Loading}
 

@@ -10,12 +10,11 @@
 //!   `journals`)
 use crate::journals::{journal_of, wanted_journal};
 use crate::lines::has_lines;
-use adhost_run::run;
+use adhost_run::{Host, run};
 use host_io::{MemFiles, MemSink};
 use serde_json::Value;
 use std::alloc::Global;
 use test_cases::{bytes_of, list_at};
-use widget_host::Host;
 
 // The bytes that a sink may take in all, where a case does not say.
 const ROOM: u64 = 1_000_000;

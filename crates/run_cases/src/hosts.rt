@@ -9,6 +9,7 @@ ghost use Rattle.run_steps.specs.Page.{files_named, slot_names};
 ghost use Rattle.run_cases.specs.Ready.{IsLoading, IsReady};
 
 use crate::commands::mem_files;
+use adhost_run::Host;
 use code_units::{Memory, Text};
 use host_io::MemFiles;
 use keyed_names::Keys;
@@ -20,7 +21,6 @@ use serde_json::Value;
 use slot_check::SourceFile;
 use std::alloc::Global;
 use test_cases::list_at;
-use widget_host::Host;
 
 /// A host on which calls are made: how many slots it has and how many items it was given; and a swap that it
 /// was not given yet, the slot and what comes into it.

@@ -1,9 +1,9 @@
 //! The picks that a host kept, as a text: a list of lists, of each pick its widget, what that had spent
 //! before and after, and the slice.
+use adhost_run::Host;
 use serde_json::Value;
 use std::alloc::Global;
 use std::fmt::Write;
-use widget_host::Host;
 
 /// The picks that a host kept.
 pub fn journal_of(alloc: Global, host: &Host) -> Option<String> {

@@ -6,7 +6,7 @@ use Rattle.std.specs.Option.{option_map}
 use Rattle.life_laws.specs.Life as todo
 use Rattle.life_laws.specs.Life.{Going, is_empty, ready}
 use Rattle.native_image.specs.declared.handed.Shared.{Shared}
-use Rattle.turn_returns.specs.declared.turn.Turn.{Turn}
+use Rattle.life_queue.specs.Turn.{Turn}
 use Rattle.life_queue.specs.declared.life.Life.{Life}
 use Rattle.life_queue.specs.declared.life.Work.{Work}
 use Rattle.life_queue.specs.Lives.{going_of, life_seen, trees_in, work_of}

@@ -9,8 +9,8 @@ use Rattle.pick_laws.specs.declared.entry.Picked.{Picked}
 use Rattle.pick_laws.specs.Picks.{Picks}
 use Rattle.pick_laws.specs.Journal.{PickedAt}
 use Rattle.native_image.specs.declared.handed.Shared.{Shared}
+use Rattle.life_queue.specs.Turn.{Turn}
 use Rattle.life_queue.specs.declared.life.Life.{Life}
-use Rattle.turn_returns.specs.declared.turn.Turn.{Turn}
 use Rattle.life_queue.specs.Lives.{life_seen, trees_in}
 use Rattle.life_queue.specs.Fine.{FineLife, FineTurn, KeepsLife, tally}
 use Rattle.life_picks.specs.Picking.{PicksLife}

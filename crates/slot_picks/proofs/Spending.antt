@@ -8,7 +8,7 @@ use Rattle.pick_laws.specs.declared.entry.Picked.TheVariants as picked
 use Rattle.pick_laws.specs.Journal.{Kept, PickedAt, entry_of, journal_after}
 use Rattle.slot_laws.specs.Settled.{flag}
 use Rattle.native_image.specs.declared.handed.Shared.{Shared}
-use Rattle.turn_returns.specs.declared.turn.Turn.{Turn}
+use Rattle.life_queue.specs.Turn.{Turn}
 use Rattle.life_queue.specs.declared.life.Life.{Life}
 use Rattle.life_queue.specs.Lives.{going_of, life_seen, own_of, trees_in}
 use Rattle.life_queue.specs.Fine.{FineLife, FineTurn, held_back}

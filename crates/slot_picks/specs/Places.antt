@@ -9,7 +9,7 @@ use Rattle.native_image.specs.Sound.{HoldsOwn}
 use Rattle.life_laws.specs.Life.{Seen}
 use Rattle.slot_laws.specs.Settled.{flag}
 use Rattle.native_image.specs.declared.handed.Shared.{Shared}
-use Rattle.life_queue.specs.Lives.{life_seen}
+pub use Rattle.life_queue.specs.Lives.{life_seen, outside}
 use Rattle.life_queue.specs.Fine.{FineLife, FineTurn, tally}
 use Rattle.slot_picks.specs.declared.lives.Place.{Place}
 

@@ -91,7 +91,6 @@ fn pick_lent(
     place: &mut Place,
     k: u32,
 ) -> Result<Picked, Memory>
-    requires widget { place.old.life.widget.id.index < 32 }
     requires slice { 0 < k }
     requires fine { FineLife (lent shared.old place.old) place.old.life.widget.id.index place.old.life }
     ensures picked { IfOk result

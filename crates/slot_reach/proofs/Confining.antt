@@ -16,14 +16,13 @@ use Rattle.slot_picks.specs.declared.lives.Place.{Place}
 use Rattle.slot_picks.specs.declared.slots.Slot.{Slot}
 use Rattle.native_image.specs.declared.handed.Shared.{Shared}
 use Rattle.slot_picks.specs.Lives.{AreStanding, OwnLives}
-use Rattle.slot_picks.specs.Places.{HoldsItsOwn, OwnPlaces, homes_of}
+use Rattle.slot_picks.specs.Places.{HoldsItsOwn, OwnPlaces, homes_of, life_seen, outside}
 use Rattle.reach_cert.specs.Walks.{KeepsIn}
 use Rattle.store_reach.specs.Reads.{read_slot}
 use Rattle.native_image.specs.Image.{Outside, beside, image}
 use Rattle.js_names.specs.Code.{trees_of}
 use Rattle.life_laws.specs.Life as todo
 use Rattle.life_laws.specs.Life.{Going}
-use Rattle.life_queue.specs.Lives.{life_seen, outside}
 use Rattle.widget_meaning.specs.OwnState.{OwnState}
 use Rattle.slot_picks.specs.Places.{lent}
 use Rattle.state_reach.specs.Differ.{AllDiffer}

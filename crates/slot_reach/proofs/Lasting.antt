@@ -9,9 +9,8 @@ use Rattle.slot_laws.specs.Settled.{flag}
 use Rattle.slot_picks.specs.declared.lives.Lives.{Lives}
 use Rattle.slot_picks.specs.declared.lives.Place.{Place}
 use Rattle.slot_picks.specs.declared.slots.Slot.{Slot}
-use Rattle.life_queue.specs.Lives.{life_seen}
 use Rattle.native_image.specs.declared.handed.Shared.{Shared}
-use Rattle.slot_picks.specs.Places.{is_accepted, lent, seen_at, seens_from}
+use Rattle.slot_picks.specs.Places.{is_accepted, lent, life_seen, seen_at, seens_from}
 use Rattle.widget_meaning.specs.OwnState.{OwnState}
 use Rattle.slot_reach.specs.Lasts.{AreLast, IsLast, names_of, state_at, states}
 

@@ -8,8 +8,7 @@ use Rattle.slot_picks.specs.declared.lives.Lives.{Lives}
 use Rattle.slot_picks.specs.declared.lives.Place.{Place}
 use Rattle.slot_picks.specs.declared.slots.Slot.{Slot}
 use Rattle.life_laws.specs.Life.{Seen, image}
-use Rattle.life_queue.specs.Lives.{life_seen}
-use Rattle.slot_picks.specs.Places.{is_accepted, lent}
+use Rattle.slot_picks.specs.Places.{is_accepted, lent, life_seen}
 use Rattle.slot_picks.specs.Lives.{seens_of}
 use Rattle.native_image.specs.declared.handed.Shared.{Shared}
 use Rattle.reach_cert.specs.Certs as cert

@@ -1,3 +1,4 @@
+pub use Rattle.js_steps.proofs.Ending
 mod Paying
 mod Born
 mod Filled

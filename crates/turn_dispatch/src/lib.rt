@@ -10,6 +10,7 @@ mod searching;
 mod site;
 
 pub use hearing::hear;
+pub use js_steps::{Frames, Stop, Task, begin};
 pub use level::{Dispatch, Doing, Firing, Heard, Hearing, Level};
 pub use opening::open_script;
 pub use searching::{listeners, search};

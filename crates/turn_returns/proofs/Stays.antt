@@ -23,7 +23,7 @@ use Rattle.js_image.proofs.Grown.{fine_stays, held_stays, seen_stays}
 use Rattle.js_flow.proofs.Stays.{frames_fine, rest_same}
 use Rattle.native_image.specs.Sound.{IsOwnCell}
 use Rattle.plan_ends.specs.Ends.{ByValue}
-use Rattle.js_steps.proofs.Ending.{awaits_later}
+use Rattle.turn_dispatch.proofs.Ending.{awaits_later}
 use Rattle.turn_dispatch.specs.declared.level.Dispatch.{Dispatch}
 use Rattle.turn_dispatch.specs.declared.level.Hearing.{Hearing}
 use Rattle.turn_dispatch.specs.declared.level.Level.{Level}

@@ -13,12 +13,12 @@ use Rattle.js_image.specs.Plans.{meant_cause}
 use Rattle.js_flow.specs.declared.job.Completion.{Completion}
 use Rattle.js_flow.specs.Views.{completion_of}
 use Rattle.js_flow.specs.Todo.{todo}
-use Rattle.js_steps.specs.Ending.{FineEnd}
 use Rattle.native_image.specs.Image.{Outside, beside, image}
 use Rattle.native_image.specs.Sound.{IsSound, KeepsStore}
 use Rattle.turn_returns.specs.declared.calls.Calls.{Calls}
 use Rattle.turn_returns.specs.declared.calls.Took.{Took}
 use Rattle.turn_returns.specs.declared.calls.Took.TheVariants as took
+use Rattle.turn_dispatch.specs.Ending.{FineEnd}
 use Rattle.turn_dispatch.specs.declared.level.Level.{Level}
 use Rattle.turn_dispatch.specs.Held.{FineHearing, FineTask}
 use Rattle.turn_dispatch.specs.Levels.{hearing_of, level_taken, levels_rest}

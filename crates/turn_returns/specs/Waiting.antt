@@ -8,7 +8,7 @@ use Rattle.page_image.specs.Image.{owns}
 use Rattle.js_image.specs.Held.{IsFine, IsHeld}
 use Rattle.plan_ends.specs.Ends.{ByValue}
 use Rattle.js_flow.specs.Fine.{FineFrames}
-use Rattle.js_steps.specs.Ending.{Awaits}
+use Rattle.turn_dispatch.specs.Ending.{Awaits}
 use Rattle.turn_dispatch.specs.declared.level.Firing.{Firing}
 use Rattle.turn_dispatch.specs.declared.level.Level.{Level}
 use Rattle.turn_dispatch.specs.declared.level.Level.TheVariants as level

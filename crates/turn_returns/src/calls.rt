@@ -2,8 +2,7 @@
 
 use js_flow::Completion;
 use js_image::StopCause;
-use js_steps::Task;
-use turn_dispatch::{Hearing, Level};
+use turn_dispatch::{Hearing, Level, Task};
 
 /// The calls of a turn that wait, the innermost last, and its open dispatches, the innermost last, each
 /// with whether `bubble` was called in it.

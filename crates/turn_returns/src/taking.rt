@@ -17,9 +17,9 @@ ghost use Rattle.js_image.specs.Plans.{meant_fault};
 ghost use Rattle.js_image.specs.Image.{Rest, image as store_image, seen};
 ghost use Rattle.js_flow.specs.Free.{free};
 ghost use Rattle.js_flow.specs.Views.{completion_of};
-ghost use Rattle.js_steps.specs.Answered.{remaining};
-ghost use Rattle.js_steps.specs.Ending.{FineEnd};
 ghost use Rattle.native_image.specs.Sound.{IsSound};
+ghost use Rattle.turn_dispatch.specs.Answered.{remaining};
+ghost use Rattle.turn_dispatch.specs.Ending.{FineEnd};
 ghost use Rattle.turn_dispatch.specs.Held.{FineHeard, FineHearing, FineTask};
 ghost use Rattle.turn_returns.specs.Waiting.{FineFiring, FineLevel};
 ghost use Rattle.turn_dispatch.specs.Levels.{functions_of, hearing_of, level_taken, searched_plan};
@@ -31,12 +31,11 @@ use crate::calls::Took;
 use code_units::{Memory, Text};
 use js_flow::{Args, Call, Completion, Control, Job};
 use js_image::{Fault, Made, Written, make_fault, put};
-use js_steps::{Frames, Task};
 use native_common::WidgetId;
 use object_store::{CellId, Store, Value};
 use page_image::parent;
 use std::alloc::Global;
-use turn_dispatch::{Dispatch, Firing, Heard, Hearing, Site, search};
+use turn_dispatch::{Dispatch, Firing, Frames, Heard, Hearing, Site, Task, search};
 
 // The value of a library's function is kept in `lib`, under the library's name.
 pub(crate) fn keeps(

@@ -17,7 +17,7 @@ use Rattle.js_image.specs.Held.{IsConfined}
 use Rattle.life_laws.specs.Life.{Going, Seen, image, shown}
 use Rattle.native_image.specs.declared.handed.Shared.{Shared}
 use Rattle.slot_picks.specs.declared.lives.Place.{Place}
-use Rattle.turn_returns.specs.declared.turn.Turn.{Turn}
+use Rattle.life_queue.specs.Turn.{Turn}
 use Rattle.life_queue.specs.Fine.{FineTurn}
 use Rattle.life_queue.specs.Lives.{going_of, life_seen, own_of, trees_in}
 use Rattle.slot_picks.specs.Places.{HoldsItsOwn, accepts_of, codes_of, lent}

@@ -38,7 +38,8 @@ use Rattle.page_plan.specs.Pages.{PagePiece, piece_of}
 use Rattle.page_build.specs.Homes.{HaveRaws}
 use Rattle.page_build.specs.Standing.{HavePlaces, IsLaidBy, PagePasses}
 use Rattle.page_load.specs.Joining.{PageJoins}
-use Rattle.page_load.specs.Loads.{HasNothing, HasScripts, singles}
+use Rattle.page_load.specs.Loads.{HasNothing}
+pub use Rattle.page_load.specs.Loads.{HasScripts, singles}
 use Rattle.widget_host.specs.declared.host.Host.{Host}
 use Rattle.widget_host.specs.declared.items.HostItem.{HostItem}
 use Rattle.widget_host.specs.declared.items.HostItem.TheVariants as host

@@ -1,3 +1,5 @@
+pub use Rattle.slot_picks.specs.declared.lives.Place
+pub use Rattle.slot_picks.specs.Places
 pub mod Housed
 pub mod Feeding
 pub mod Shapes

@@ -12,7 +12,7 @@ ghost use Rattle.widget_host.specs.Housed.{IsHoused, IsLineOf, accepts, chains, 
 use crate::host::Host;
 use code_units::{Memory, Text};
 use js_image::StopCause;
-use life_queue::Life;
+use life_queue::{Life, Stop};
 use slot_picks::{Lives, present, spent_at};
 use std::alloc::Global;
 
@@ -37,13 +37,13 @@ pub struct RunLine {
 }
 
 // Why a life has stopped, if it has.
-fn stop_of(stop: Option<js_steps::Stop>) -> Option<LifeStop>
+fn stop_of(stop: Option<Stop>) -> Option<LifeStop>
     ensures { option_map life.meant_stop stop ≡ option_map meant_stop result }
 {
     match stop {
         None => None,
-        Some(js_steps::Stop::Fuel) => Some(LifeStop::Fuel),
-        Some(js_steps::Stop::Due(cause)) => Some(LifeStop::Limit(cause)),
+        Some(Stop::Fuel) => Some(LifeStop::Fuel),
+        Some(Stop::Due(cause)) => Some(LifeStop::Limit(cause)),
     }
 }
 

@@ -11,9 +11,9 @@ use Rattle.life_picks.proofs.notes.note.Goals as goal
 pub returns-clause-noted : goal.returns-clause-noted
 returns-clause-noted c =
     let h = c.args.shared.now in
-    let w = c.args.w in
+    let w = c.args.id.index in
     let a = c.args.life.now in
-    let r = rest w c.requires.widget (outside a) (beside h.store h.page a.widget.around None) in
+    let r = rest w c.args.id.small (outside a) (beside h.store h.page a.widget.around None) in
     on_ok_weaker c.keep_note.result
     (λ n s e. n ∙ ap (λ t. noted t (own_of h w a)) (c.in_ok-text.ensures (trees_in h) r c.requires.fine.confined ∙ sym (note_same s (image (trees_in h) r w h.store) e (seen w h.store.cells c.args.value.now))))
     c.keep_note.ensures.noted

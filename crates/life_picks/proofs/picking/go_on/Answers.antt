@@ -3,9 +3,9 @@ use Rattle.native_image.specs.Image.{Outside}
 use Rattle.life_laws.specs.Life.{Fixed, fixed}
 use Rattle.pick_laws.specs.declared.entry.Picked.TheVariants as picked
 use Rattle.turn_steps.specs.Moving.{FineRan, IsCutAt, IsEndedAt, RanTo}
+use Rattle.life_queue.specs.Turn.{Turn}
 use Rattle.life_queue.specs.Fine.{FineLife}
 use Rattle.life_queue.specs.Lives.{outside, own_of}
-use Rattle.turn_returns.specs.declared.turn.Turn.{Turn}
 use Rattle.life_picks.specs.Picking.{PicksLife}
 use Rattle.life_picks.proofs.Carried.{cut_picks, fine_spent, keeps_close, keeps_ran, keeps_turn, ok_of, ok_on, over_picks}
 use Rattle.life_picks.proofs.picking.go_on.Goals as goal

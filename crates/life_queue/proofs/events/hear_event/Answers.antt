@@ -14,36 +14,36 @@ use Rattle.life_queue.proofs.Scripts.{rested_by}
 use Rattle.life_queue.proofs.events.hear_event.Goals as goal
 
 pub returns-in_err-seen_value-clause-kept : goal.returns-in_err-seen_value-clause-kept
-returns-in_err-seen_value-clause-kept c = keeps_life c.args.w c.args.shared.now c.args.life.now c.args.life.now c.requires.fine.sound.holds (same_life c.args.life.now)
+returns-in_err-seen_value-clause-kept c = keeps_life c.args.id.index c.args.shared.now c.args.life.now c.args.life.now c.requires.fine.sound.holds (same_life c.args.life.now)
 
 pub hear-requires-clause-sound : goal.hear-requires-clause-sound
 hear-requires-clause-sound c = (c.args.life.now.widget.around, c.requires.fine.sound)
 
 pub hear-requires-clause-dispatch : goal.hear-requires-clause-dispatch
-hear-requires-clause-dispatch c = record { target = c.requires.own; value = (c.in_ok-seen_value.ensures c.args.w c.args.shared.now.store.cells).1 }
+hear-requires-clause-dispatch c = record { target = c.requires.own; value = (c.in_ok-seen_value.ensures c.args.id.index c.args.shared.now.store.cells).1 }
 
 pub returns-in_err-heard-clause-kept : goal.returns-in_err-heard-clause-kept
 returns-in_err-heard-clause-kept c =
     let h = c.args.shared.now in
-    keeps_by c.args.w h c.hear.new.store h.page c.args.life.now c.args.life.now (cells_stored (trees_in h) c.args.w h.store c.hear.new.store c.hear.ensures.kept) (page_same c.args.w h.page) (host_here h.page)
+    keeps_by c.args.id.index h c.hear.new.store h.page c.args.life.now c.args.life.now (cells_stored (trees_in h) c.args.id.index h.store c.hear.new.store c.hear.ensures.kept) (page_same c.args.id.index h.page) (host_here h.page)
     (c.hear.ensures.sound c.args.life.now.widget.around c.requires.fine.sound).holds (same_life c.args.life.now)
 
 pub returns-in_err-doing-clause-kept : goal.returns-in_err-doing-clause-kept
 returns-in_err-doing-clause-kept c =
     let h = c.args.shared.now in
-    keeps_by c.args.w h c.hear.new.store h.page c.args.life.now c.args.life.now (cells_stored (trees_in h) c.args.w h.store c.hear.new.store c.hear.ensures.kept) (page_same c.args.w h.page) (host_here h.page)
+    keeps_by c.args.id.index h c.hear.new.store h.page c.args.life.now c.args.life.now (cells_stored (trees_in h) c.args.id.index h.store c.hear.new.store c.hear.ensures.kept) (page_same c.args.id.index h.page) (host_here h.page)
     (c.hear.ensures.sound c.args.life.now.widget.around c.requires.fine.sound).holds (same_life c.args.life.now)
 
 pub returns-clause-kept : goal.returns-clause-kept
 returns-clause-kept c =
     let h = c.args.shared.now in
-    subst (λ (b : Life). KeepsLife c.args.w h (record h { store = c.hear.new.store }) c.args.life.now b) (sym c.begin.ensures)
-    (keeps_by c.args.w h c.hear.new.store h.page c.args.life.now _ (cells_stored (trees_in h) c.args.w h.store c.hear.new.store c.hear.ensures.kept) (page_same c.args.w h.page) (host_here h.page)
+    subst (λ (b : Life). KeepsLife c.args.id.index h (record h { store = c.hear.new.store }) c.args.life.now b) (sym c.begin.ensures)
+    (keeps_by c.args.id.index h c.hear.new.store h.page c.args.life.now _ (cells_stored (trees_in h) c.args.id.index h.store c.hear.new.store c.hear.ensures.kept) (page_same c.args.id.index h.page) (host_here h.page)
     (c.hear.ensures.sound c.args.life.now.widget.around c.requires.fine.sound).holds (record { widget = refl; slot = refl; accepted = refl }))
 
 pub returns-clause-starts : goal.returns-clause-starts
 returns-clause-starts c =
-    let w = c.args.w in
+    let w = c.args.id.index in
     let h = c.args.shared.now in
     let a = c.args.life.now in
     let new = c.hear.new.store in

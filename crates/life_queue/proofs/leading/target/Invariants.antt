@@ -6,4 +6,4 @@ use Rattle.event_loop.specs.Deliveries.{leads}
 use Rattle.life_queue.proofs.leading.target.Given as goal
 
 abbrev pub invariant-each : goal.invariant-each
-invariant-each l = record { leads : leads (nodes l.page) l.place (drop l.step-index l.path) ≡ leads (nodes l.page) (Some l.root) l.path; own : OptionIn (owns l.page l.w) l.place }
+invariant-each l = record { leads : leads (nodes l.page) l.place (drop l.step-index l.path) ≡ leads (nodes l.page) (Some l.root) l.path; own : OptionIn (owns l.page l.id.index) l.place }

@@ -1,6 +1,6 @@
 use Rattle.std.proofs.Common.{sym, ap, ◌∙◌, subst}
-use Rattle.js_steps.specs.declared.task.Task.{Task}
-use Rattle.js_steps.specs.Answered.{remaining}
+use Rattle.turn_dispatch.specs.Task.{Task}
+use Rattle.turn_dispatch.specs.Answered.{remaining}
 use Rattle.turn_dispatch.specs.Held.{FineTask}
 use Rattle.life_queue.proofs.works.call.Goals as goal
 

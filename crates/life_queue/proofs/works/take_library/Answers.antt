@@ -18,21 +18,21 @@ returns-then-is_some-clause-taken c =
     let h = c.args.shared.now in
     let a = c.args.life.now in
     let stop = stop_there a.records.stop (sym c.is_some.ensures ∙ c.if-is_some.true) in
-    takes_passed h h c.args.w (work.Library c.args.script.now) a a c.requires.rests
-    (library_passes (own_of h c.args.w a) (text_with c.args.script.now.name (function_of (trees_in h) c.args.script.now)) stop.0 (works_of h c.args.w a) stop.1)
+    takes_passed h h c.args.id.index (work.Library c.args.script.now) a a c.requires.rests
+    (library_passes (own_of h c.args.id.index a) (text_with c.args.script.now.name (function_of (trees_in h) c.args.script.now)) stop.0 (works_of h c.args.id.index a) stop.1)
     c.requires.fine (omega arith) (omega arith)
 
 pub returns-then-is_some-clause-kept : goal.returns-then-is_some-clause-kept
-returns-then-is_some-clause-kept c = keeps_life c.args.w c.args.shared.now c.args.life.now c.args.life.now c.requires.fine.sound.holds (same_life c.args.life.now)
+returns-then-is_some-clause-kept c = keeps_life c.args.id.index c.args.shared.now c.args.life.now c.args.life.now c.requires.fine.sound.holds (same_life c.args.life.now)
 
 pub returns-in_err-share-clause-kept : goal.returns-in_err-share-clause-kept
-returns-in_err-share-clause-kept c = keeps_life c.args.w c.args.shared.now c.args.life.now c.args.life.now c.requires.fine.sound.holds (same_life c.args.life.now)
+returns-in_err-share-clause-kept c = keeps_life c.args.id.index c.args.shared.now c.args.life.now c.args.life.now c.requires.fine.sound.holds (same_life c.args.life.now)
 
 pub returns-in_err-push-clause-kept : goal.returns-in_err-push-clause-kept
-returns-in_err-push-clause-kept c = keeps_life c.args.w c.args.shared.now c.args.life.now c.args.life.now c.requires.fine.sound.holds (same_life c.args.life.now)
+returns-in_err-push-clause-kept c = keeps_life c.args.id.index c.args.shared.now c.args.life.now c.args.life.now c.requires.fine.sound.holds (same_life c.args.life.now)
 
 pub returns-in_err-doing-clause-kept : goal.returns-in_err-doing-clause-kept
-returns-in_err-doing-clause-kept c = keeps_stored c.args.w c.args.shared.now c.open_script.new.store c.args.life.now c.args.life.now c.requires.fine.sound.holds (c.open_script.ensures.kept (trees_in c.args.shared.now) c.requires.script) (same_life c.args.life.now)
+returns-in_err-doing-clause-kept c = keeps_stored c.args.id.index c.args.shared.now c.open_script.new.store c.args.life.now c.args.life.now c.requires.fine.sound.holds (c.open_script.ensures.kept (trees_in c.args.shared.now) c.requires.script) (same_life c.args.life.now)
 
 pub open_script-requires-clause-args : goal.open_script-requires-clause-args
 open_script-requires-clause-args c = (c.requires.fine.lib.held, tt)
@@ -44,12 +44,12 @@ pub returns-clause-kept : goal.returns-clause-kept
 returns-clause-kept c =
     let h = c.args.shared.now in
     let a = c.args.life.now in
-    subst (λ (b : Life). KeepsLife c.args.w h (record h { store = c.open_script.new.store }) a b) (sym c.begin.ensures)
-    (keeps_stored c.args.w h c.open_script.new.store a _ c.requires.fine.sound.holds (c.open_script.ensures.kept (trees_in h) c.requires.script) (record { widget = refl; slot = refl; accepted = refl }))
+    subst (λ (b : Life). KeepsLife c.args.id.index h (record h { store = c.open_script.new.store }) a b) (sym c.begin.ensures)
+    (keeps_stored c.args.id.index h c.open_script.new.store a _ c.requires.fine.sound.holds (c.open_script.ensures.kept (trees_in h) c.requires.script) (record { widget = refl; slot = refl; accepted = refl }))
 
 pub returns-clause-taken : goal.returns-clause-taken
 returns-clause-taken c =
-    let w = c.args.w in
+    let w = c.args.id.index in
     let h = c.args.shared.now in
     let a = c.args.life.now in
     let script = c.args.script.now in
@@ -63,7 +63,7 @@ returns-clause-taken c =
     (c.in_ok-push.ensures.items ∙ (λ j. c.new-levels.ensures.items j ++ level.Keeps a.lib (c.in_ok-share.ensures j) ∷ []))
     c.new.ensures.items
     (rested h w a new c.requires.rests c.requires.fine kept) c.requires.room
-    (library_so (trees_in h) w c.requires.widget h.page h.store new a.widget.around (counted h w a new h.page) c.requires.fine.sound kept.grows a c.requires.fine.lib script.name f c.in_ok-doing.doing _ refl
+    (library_so (trees_in h) w c.args.id.small h.page h.store new a.widget.around (counted h w a new h.page) c.requires.fine.sound kept.grows a c.requires.fine.lib script.name f c.in_ok-doing.doing _ refl
     (λ r levels. c.in_ok-doing.ensures.plan (trees_in h) h.page r levels))
     (c.in_ok-doing.ensures.fine (trees_in h) h.page)
     ((lib_stays w h.store new a kept.grows c.requires.fine.lib).held, tt))

@@ -1,6 +1,6 @@
 use Rattle.std.proofs.Common.{ap, subst}
 use Rattle.trace_reader.specs.Said.{said}
-use Rattle.widget_host.specs.declared.items.HostItem.TheVariants as host
+use Rattle.page_live.specs.HostItem.TheVariants as host
 use Rattle.live_lines.specs.Transcript.{ReadFailed}
 use Rattle.live_lines.proofs.Causes.{advance_no_swap, event_no_swap, same_file}
 use Rattle.live_lines.proofs.Replying.{advance_for, alive_of, event_for, item_answered, on_one, on_three, swap_for, swap_reply}

@@ -1,6 +1,6 @@
 use Rattle.std.proofs.Common.{◌++◌, ap, refl, arith, ◌∙◌}
-use Rattle.page_play.specs.Findings.{found_refused}
 use Rattle.live_text.specs.Answer.{full_text}
+use Rattle.page_live.specs.Findings.{found_refused}
 use Rattle.live_lines.specs.Transcript.{no_room}
 use Rattle.live_lines.proofs.Endings.{closed_cut, closed_shut, ending_written}
 use Rattle.live_lines.proofs.living.close.Goals as goal

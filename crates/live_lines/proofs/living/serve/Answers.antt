@@ -1,5 +1,5 @@
 use Rattle.std.proofs.Common.{◌≤◌, Err, refl, ap, ◌∙◌, arith}
-use Rattle.page_play.specs.Findings.{found_refused}
+use Rattle.page_live.specs.Findings.{found_refused}
 use Rattle.live_lines.proofs.Serving.{going_on_first, going_on_next, line_answered, none_read, served_closed, served_cut, served_end, served_small, served_unread, some_read}
 use Rattle.live_lines.proofs.Endings.{ends_closed, ends_ending, ends_small, ends_unread, ends_unwritten, rose_later}
 use Rattle.live_lines.proofs.living.serve.Goals as goal

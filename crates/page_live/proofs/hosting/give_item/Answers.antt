@@ -1,5 +1,5 @@
 use Rattle.std.proofs.Common.{[], ◌∷◌, ◌++◌}
-use Rattle.widget_host.specs.Given.{with_item}
+use Rattle.page_play.specs.Given.{with_item}
 use Rattle.page_play.specs.Settled.{said_of}
 use Rattle.page_live.specs.Living.{takes_item}
 use Rattle.page_live.proofs.Stirred.{stirred_item, was_ended}

@@ -4,8 +4,8 @@ use Rattle.trace_reader.specs.Said.{a_swap}
 use Rattle.round_laws.specs.Fed.{Fed}
 use Rattle.round_laws.specs.RoundLaws.{fed_at}
 use Rattle.page_plan.specs.Contents.{content_of}
-use Rattle.widget_host.specs.Given.{begins, with_swap}
-use Rattle.widget_host.specs.Housed.{fuels}
+use Rattle.page_play.specs.Given.{begins, with_swap}
+use Rattle.page_play.specs.Housed.{fuels}
 use Rattle.page_live.specs.Living.{Rounds, brought_to, takes_swap}
 use Rattle.page_live.proofs.Stirred.{ended_has, stirred_swap, was_ended}
 use Rattle.page_live.proofs.Rested.{rested}

@@ -1,5 +1,5 @@
 use Rattle.std.proofs.Common.{[]}
-use Rattle.widget_host.specs.Given.{begun}
+use Rattle.page_play.specs.Given.{begun}
 use Rattle.page_live.specs.Living.{loaded}
 use Rattle.page_live.proofs.Stirred.{stirred_loaded}
 use Rattle.page_live.proofs.Rested.{rested}

@@ -1,5 +1,5 @@
+use Rattle.adhost_run.specs.HostItem.TheVariants as host
 use Rattle.run_cases.proofs.Staying.{ready_gave}
-use Rattle.widget_host.specs.declared.items.HostItem.TheVariants as host
 use Rattle.run_cases.proofs.calls.give.Goals as goal
 
 pub returns : goal.returns

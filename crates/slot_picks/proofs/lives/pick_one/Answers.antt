@@ -10,15 +10,6 @@ use Rattle.slot_picks.proofs.Keeping.{keeps_set}
 use Rattle.slot_picks.proofs.Picking.{fews_here, fine_number, fines_here, length_set, number_here, on_ok, others_seen, picked_at, set_there, turn_after}
 use Rattle.slot_picks.proofs.lives.pick_one.Goals as goal
 
-pub pick_lent-requires-clause-widget : goal.pick_lent-requires-clause-widget
-pick_lent-requires-clause-widget c =
-    let h = c.args.lives.now.shared in
-    let ls = c.args.lives.now.places.items in
-    let a = c.index_mut.result.now in
-    let at : slice_get ls c.args.v ≡ Some a = slice_get_read ls (length ls) c.args.v a refl c.requires.there c.index_mut.ensures.value in
-    let number : a.life.widget.id.index ≡ c.args.v = number_here h c.args.v ls a at (c.requires.accepted a at) c.requires.fine.fine in
-    omega (arith, number, c.requires.there, c.requires.fine.places)
-
 pub pick_lent-requires-clause-fine : goal.pick_lent-requires-clause-fine
 pick_lent-requires-clause-fine c =
     let h = c.args.lives.now.shared in

@@ -1,10 +1,10 @@
 use Rattle.std.proofs.Common.{◌≡◌, ◌≤◌, List}
 use Rattle.js_tree.specs.Forest.{Forest}
-use Rattle.js_steps.specs.Ending.{FineEnd}
 use Rattle.js_flow.specs.Views.{completion_of}
 use Rattle.native_image.specs.Image.{Outside}
 use Rattle.turn_returns.specs.Took.{StaysSound}
 use Rattle.turn_returns.specs.Waiting.{FineLevels}
+use Rattle.turn_dispatch.specs.Ending.{FineEnd}
 use Rattle.turn_dispatch.specs.Levels.{levels_rest}
 use Rattle.turn_returns.specs.Turns.{turn_image}
 use Rattle.turn_returns.specs.Weights.{levels_free, weights}

@@ -6,9 +6,9 @@ use Rattle.widget_meaning.specs.Dispatch.{bubble_on}
 use Rattle.widget_meaning.specs.Plan as plan
 use Rattle.widget_meaning.specs.Plan.{Do, Ret, and_then}
 use Rattle.js_flow.specs.Views.{completion_of}
-use Rattle.js_steps.specs.Answered.{remaining}
 use Rattle.native_image.specs.Image.{beside}
 use Rattle.native_image.proofs.Joint.{rest}
+use Rattle.turn_dispatch.specs.Answered.{remaining}
 use Rattle.turn_dispatch.specs.declared.level.Hearing.{Hearing}
 use Rattle.turn_dispatch.specs.declared.level.Level.TheVariants as level
 use Rattle.turn_dispatch.specs.Held.{FineHearing}

@@ -13,10 +13,10 @@ use Rattle.js_flow.specs.declared.task.Control.TheVariants as control
 use Rattle.js_flow.specs.Fine.{FineCall, FineFrames}
 use Rattle.js_flow.specs.Free.{free}
 use Rattle.js_flow.specs.Todo.{todo}
-use Rattle.js_steps.specs.declared.task.Task.{Task}
-use Rattle.js_steps.specs.Answered.{remaining}
-use Rattle.js_steps.specs.Ending.{EndsCall}
-use Rattle.js_steps.proofs.Ending.{call_ends}
+use Rattle.turn_dispatch.specs.Task.{Task}
+use Rattle.turn_dispatch.specs.Answered.{remaining}
+use Rattle.turn_dispatch.specs.Ending.{EndsCall}
+use Rattle.turn_dispatch.proofs.Ending.{call_ends}
 use Rattle.turn_dispatch.specs.Held.{FineTask}
 use Rattle.turn_returns.proofs.Arms.{handler_held, handler_seen}
 use Rattle.turn_returns.proofs.taking.call_handler.Goals as goal

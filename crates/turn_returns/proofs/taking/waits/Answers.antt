@@ -4,9 +4,9 @@ use Rattle.js_flow.specs.declared.task.Control.{Control}
 use Rattle.js_flow.specs.declared.task.Control.TheVariants as control
 use Rattle.js_flow.specs.Fine.{FineControl, FineFrames}
 use Rattle.js_flow.specs.Todo.{IsGoing}
-use Rattle.js_steps.specs.declared.task.Task.{Task}
-use Rattle.js_steps.specs.Ending.{EndsCall}
-use Rattle.js_steps.proofs.Ending.{end_fine, goes_with}
+use Rattle.turn_dispatch.specs.Task.{Task}
+use Rattle.turn_dispatch.specs.Ending.{EndsCall}
+use Rattle.turn_dispatch.proofs.Ending.{end_fine, goes_with}
 use Rattle.turn_returns.proofs.taking.waits.Goals as goal
 
 pub returns-clause-fine : goal.returns-clause-fine
