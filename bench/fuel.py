@@ -21,6 +21,7 @@ CHAIN = "var o = {}; for (i = 0; i < 99; i += 1) { o = ADSAFE.create(o); }"
 ARRAY = "var a = []; for (i = 0; i < 20000; i += 1) { a[+i] = i; }"
 TEXTS = TEXT + " var a = []; for (i = 0; i < 10000; i += 1) { a[+i] = s; } for (i = 0; i < 20; i += 1) { a[+i] = s + i; }"
 LISTEN = "var b = dom.q('p'); for (i = 0; i < 60000; i += 1) { b.on('y', f); }"
+SINGLES = [c for c in "bcdefghijklmnopqrstuvwxyzABCDEFGHIJKLMNOPQRSTUVWXYZ0123456789"]
 WORDS = [a + b + c for a in LETTERS for b in LETTERS for c in LETTERS][:25000]
 DOUBLED = "while (q.length < 32768) { q = q + q; } q = '*' + q;"
 PAIR = 'var s = "%sa", t = "%sb";' % ("x" * 125000, "x" * 125000)
@@ -144,6 +145,12 @@ ROWS = [
      "try { dom.q(q); } catch (e) { x = 1; }"),
     ("`dom.q` of 28,000 filters `[title=a]`", "var q = '*%s';" % ("[title=a]" * 28000), "x = dom.q(q);",
      '<p title="a">hi</p>'),
+    ("`dom.q` of 61 filters, on one node with 130,000 words", "var q = '*%s';" % "".join("." + w for w in SINGLES),
+     "x = dom.q(q);", '<p class="%s%s">hi</p>' % ("a " * 129900, " ".join(SINGLES))),
+    ("`dom.q` of 8 filters, on one node with 130,000 words", "var q = '*%s';" % "".join("." + w for w in SINGLES[:8]),
+     "x = dom.q(q);", '<p class="%s%s">hi</p>' % ("a " * 129900, " ".join(SINGLES))),
+    ("`dom.q` of 32,000 filters `.a` and as many `.b` in turn", "var q = '*%s';" % (".a.b" * 32000), "x = dom.q(q);",
+     '<p class="a b">hi</p>'),
     ("`dom.q` of 43,000 filters `:first`", "var q = '*%s';" % (":first" * 43000), "x = dom.q(q);"),
     ("`dom.q` of `[style=a]`, 18 styles of 256 units", "", 'x = dom.q("*[style=a]");', '<p style="%s">hi</p>' % STYLE),
     ("`dom.q` of `[style=a]`, on 48 nodes with 18 styles of 256 units", "", 'x = dom.q("*[style=a]");',
