@@ -16,7 +16,7 @@ ghost use Rattle.js_flow.specs.Views.{place_of};
 ghost use Rattle.js_direct.specs.Comes.{Comes, IsReady};
 ghost use Rattle.js_direct.specs.Goes.{GoesOn};
 
-use crate::forms::eval_on;
+use crate::forms::operand_on;
 use crate::run::{Ended, Here, Run, Site, stop, take_value, throw, wait};
 use code_units::Memory;
 use js_flow::{FormFrame, Frame, element_at};
@@ -121,7 +121,7 @@ fn element_on(
     ensures kept { Kept (trees_of here.now.site.now.codes.now.items) here.now.site.now.widget store.old store.new }
 {
     let (array, id, n, e) = at;
-    match eval_on(here, run, store, e, deep, out)? {
+    match operand_on(here, run, store, e, deep, out)? {
         Ended::Is => put_element(here.site, run, store, array, n, out),
         Ended::Left => wait(run, Frame::Form(FormFrame::Element(array, id, n, here.at))),
         how => Ok(how),

@@ -18,7 +18,7 @@ ghost use Rattle.js_flow.specs.Views.{job_of, place_of, reference_of};
 ghost use Rattle.js_direct.specs.Hands.{HandsOn};
 ghost use Rattle.js_direct.specs.Comes.{Comes, IsReady};
 
-use crate::forms::{eval_on, operand_on};
+use crate::forms::operand_on;
 use crate::operators::operate_on;
 use crate::run::{Ended, Here, Run, set_value, share_to, take_value, wait};
 use crate::summing::added;
@@ -586,7 +586,7 @@ fn assign_with(
         run.old run.new how out.new) }
     ensures kept { Kept (trees_of here.now.site.now.codes.now.items) here.now.site.now.widget store.old store.new }
 {
-    match eval_on(here, run, store, by.1, deep, out)? {
+    match operand_on(here, run, store, by.1, deep, out)? {
         Ended::Is => compute_on(here, run, store, by.0, of, has, out),
         Ended::Left => {
             let boxed = pending(here, by.0, of, has)?;

@@ -23,13 +23,14 @@ use crate::literals::function_on;
 use crate::objects::object_on;
 use crate::operators::{and_on, binary_on, choose_on, or_on, unary_on};
 use crate::properties::{dot_on, sub_on};
-use crate::run::{Ended, Here, Run, clear, leave_job};
+use crate::run::{Ended, Here, Run, clear, leave_job, set_value};
 use crate::stepping::step_on;
+use crate::summing::{compared, counted};
 use crate::targets::delete_on;
 use code_units::Memory;
 use js_flow::{Job, Place};
 use js_tree::{Expr, ExprId, UnOp};
-use object_store::{Store, Value};
+use object_store::{Number, Store, Value};
 
 /// An expression, before its unit.
 #[cycle(direct)]
@@ -59,7 +60,8 @@ pub(crate) fn eval_on(
     form_on(here, run, store, id, deep - 1, out)
 }
 
-/// The same, where most are names and numbers: these are read in place, and operators and subscripts begun here.
+/// The same, where most are names and numbers: these are read in place, `+` of one too, and operators, properties,
+/// calls and assignments begun here.
 #[inline(always)]
 #[cycle(direct)]
 pub(crate) fn operand_on(
@@ -100,7 +102,58 @@ pub(crate) fn operand_on(
             run.units -= 1;
             sub_on(here, run, store, (*e, *index), deep - 1, out)
         }
+        Expr::Dot(e, name) if deep > 0 => {
+            run.units -= 1;
+            dot_on(here, run, store, *e, name, deep - 1, out)
+        }
+        Expr::Call(callee, _) if deep > 0 => {
+            run.units -= 1;
+            call_on(here, run, store, id, *callee, deep - 1, out)
+        }
+        Expr::Assign(op, to, e) if deep > 0 => {
+            run.units -= 1;
+            assign_on(here, run, store, *op, (*to, *e), deep - 1, out)
+        }
+        Expr::Unary(op, e) => match counted(here, store, *op, *e, run.units) {
+            Some(y) => {
+                run.units -= 2;
+                set_value(out, Value::Num(Number::Whole(y)));
+                Ok(Ended::Is)
+            }
+            None => eval_on(here, run, store, id, deep, out),
+        },
         _ => eval_on(here, run, store, id, deep, out),
+    }
+}
+
+/// The same of a condition: most compare variables and numbers, which is told in place.
+#[inline(always)]
+#[cycle(direct)]
+pub(crate) fn condition_on(
+    here: &Here,
+    run: &mut Run,
+    store: &mut Store,
+    id: ExprId,
+    deep: u32,
+    out: &mut Value,
+) -> Result<Ended, Memory>
+    requires ready { IsReady (trees_of here.now.site.now.codes.now.items) here.now.site.now.widget store.old run.old }
+    requires held { IsExprAt (trees_of here.now.site.now.codes.now.items) here.now.site.now.widget
+        store.old.cells id here.now.at }
+    requires tree { trees here.now.tree.now ≡ forest_at (trees_of here.now.site.now.codes.now.items) here.now.at.code }
+    ensures comes { let F = trees_of here.now.site.now.codes.now.items in let w = here.now.site.now.widget in
+        IfOk result (λ how. Comes F w store.old store.new 0
+        (λ s. Do (job_of F w store.old.cells (Job.Eval id here.now.at)) s Ret)
+        run.old run.new how out.new) }
+    ensures kept { Kept (trees_of here.now.site.now.codes.now.items) here.now.site.now.widget store.old store.new }
+{
+    match compared(here, store, id, run.units) {
+        Some(told) => {
+            run.units -= 3;
+            set_value(out, Value::Bool(told));
+            Ok(Ended::Is)
+        }
+        None => operand_on(here, run, store, id, deep, out),
     }
 }
 

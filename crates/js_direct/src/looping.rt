@@ -22,7 +22,7 @@ ghost use Rattle.js_direct.specs.Comes.{Comes, IsReady};
 ghost use Rattle.js_direct.specs.Towards.{Passes, frame_in, part_of};
 
 use crate::blocks::{block_on, list_on, loop_list};
-use crate::forms::{eval_on, operand_on};
+use crate::forms::{condition_on, operand_on};
 use crate::run::{Ended, Here, Run, clear, leave_job, wait};
 use crate::statements::Part;
 use code_units::Memory;
@@ -138,7 +138,7 @@ fn tested_on(
         run.old run.new o out.new) }
     ensures kept { Kept (trees_of here.now.site.now.codes.now.items) here.now.site.now.widget store.old store.new }
 {
-    match operand_on(here, run, store, e, deep, out)? {
+    match condition_on(here, run, store, e, deep, out)? {
         Ended::Is => Ok(over(out)),
         how => Ok(Some(hand_test(run, how, id, &here.at)?)),
     }
@@ -384,7 +384,7 @@ pub(crate) fn expressions_on(
     let mut n = 0;
     'list: while let Some(e) = expression_at(here.tree, id, node, part, n) {
         n += 1;
-        match eval_on(here, run, store, e, deep, out)? {
+        match operand_on(here, run, store, e, deep, out)? {
             Ended::Is => clear(out),
             Ended::Left => return wait_part(run, part, id, n, &here.at),
             how => return Ok(how),

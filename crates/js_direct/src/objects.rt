@@ -17,7 +17,7 @@ ghost use Rattle.js_flow.specs.Views.{place_of};
 ghost use Rattle.js_direct.specs.Comes.{Comes, IsReady};
 ghost use Rattle.js_direct.specs.Goes.{GoesOn};
 
-use crate::forms::eval_on;
+use crate::forms::operand_on;
 use crate::run::{Ended, Here, Run, Site, stop, take_value, throw, wait};
 use code_units::{Memory, Text};
 use js_flow::{FormFrame, Frame, property_at};
@@ -131,7 +131,7 @@ fn property_part_on(
     ensures kept { Kept (trees_of here.now.site.now.codes.now.items) here.now.site.now.widget store.old store.new }
 {
     let (object, id, n) = at;
-    match eval_on(here, run, store, part.1, deep, out)? {
+    match operand_on(here, run, store, part.1, deep, out)? {
         Ended::Is => put_property(here.site, run, store, object, &part.0, out),
         Ended::Left => wait(
             run,

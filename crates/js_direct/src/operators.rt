@@ -19,8 +19,9 @@ ghost use Rattle.js_direct.specs.Hands.{HandsOn};
 ghost use Rattle.js_direct.specs.Comes.{Comes, IsReady};
 ghost use Rattle.js_direct.specs.Prefixes.{is_plain_prefix};
 
-use crate::forms::{eval_on, operand_on};
+use crate::forms::{condition_on, operand_on};
 use crate::run::{Ended, Here, Run, Site, clear, handed, set_value, stop, take_value, wait};
+use crate::summing::computed;
 use crate::wholes::{of_whole, of_wholes};
 use code_units::Memory;
 use js_expressions::take_form;
@@ -55,6 +56,11 @@ pub(crate) fn binary_on(
         run.old run.new how out.new) }
     ensures kept { Kept (trees_of here.now.site.now.codes.now.items) here.now.site.now.widget store.old store.new }
 {
+    if let Some(value) = computed(here, store, op, parts, run.units) {
+        run.units -= 2;
+        set_value(out, value);
+        return Ok(Ended::Is);
+    }
     let mut left = Value::Undefined;
     binary_with(here, run, store, op, parts, deep, &mut left, out)
 }
@@ -377,7 +383,7 @@ pub(crate) fn and_on(
         run.old run.new how out.new) }
     ensures kept { Kept (trees_of here.now.site.now.codes.now.items) here.now.site.now.widget store.old store.new }
 {
-    match eval_on(here, run, store, parts.0, deep, out)? {
+    match operand_on(here, run, store, parts.0, deep, out)? {
         Ended::Is => and_right(here, run, store, parts.1, deep, out),
         how => hand_and(run, how, parts.1, &here.at),
     }
@@ -421,7 +427,7 @@ fn and_right(
         return Ok(Ended::Is);
     }
     clear(out);
-    eval_on(here, run, store, e, deep, out)
+    operand_on(here, run, store, e, deep, out)
 }
 
 /// `||`.
@@ -448,7 +454,7 @@ pub(crate) fn or_on(
         run.old run.new how out.new) }
     ensures kept { Kept (trees_of here.now.site.now.codes.now.items) here.now.site.now.widget store.old store.new }
 {
-    match eval_on(here, run, store, parts.0, deep, out)? {
+    match operand_on(here, run, store, parts.0, deep, out)? {
         Ended::Is => or_right(here, run, store, parts.1, deep, out),
         how => hand_or(run, how, parts.1, &here.at),
     }
@@ -492,7 +498,7 @@ fn or_right(
         return Ok(Ended::Is);
     }
     clear(out);
-    eval_on(here, run, store, e, deep, out)
+    operand_on(here, run, store, e, deep, out)
 }
 
 /// `? :`.
@@ -521,7 +527,7 @@ pub(crate) fn choose_on(
         run.old run.new how out.new) }
     ensures kept { Kept (trees_of here.now.site.now.codes.now.items) here.now.site.now.widget store.old store.new }
 {
-    match eval_on(here, run, store, parts.0, deep, out)? {
+    match condition_on(here, run, store, parts.0, deep, out)? {
         Ended::Is => chosen_on(here, run, store, (parts.1, parts.2), deep, out),
         how => hand_choose(run, how, (parts.1, parts.2), &here.at),
     }
@@ -574,10 +580,10 @@ fn chosen_on(
 {
     if is_true(out) {
         clear(out);
-        return eval_on(here, run, store, parts.0, deep, out);
+        return operand_on(here, run, store, parts.0, deep, out);
     }
     clear(out);
-    eval_on(here, run, store, parts.1, deep, out)
+    operand_on(here, run, store, parts.1, deep, out)
 }
 
 /// A prefix operator that takes a value.

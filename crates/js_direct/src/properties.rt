@@ -15,7 +15,7 @@ ghost use Rattle.js_flow.specs.Views.{job_of};
 ghost use Rattle.js_direct.specs.Hands.{HandsOn};
 ghost use Rattle.js_direct.specs.Comes.{Comes, IsReady};
 
-use crate::forms::{eval_on, operand_on};
+use crate::forms::operand_on;
 use crate::run::{Ended, Here, Run, Site, clear, share_to, take_value, throw, wait};
 use code_units::{Memory, Text};
 use js_flow::{FormFrame, Frame, Job, Place};

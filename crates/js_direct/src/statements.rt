@@ -25,7 +25,7 @@ ghost use Rattle.js_direct.specs.Towards.{IsDecls, IsExprs, frame_after, part_of
 use crate::blocks::block_on;
 use crate::catching::try_on;
 use crate::choosing::switch_on;
-use crate::forms::{eval_on, operand_on};
+use crate::forms::{condition_on, eval_on, operand_on};
 use crate::looping::{again_on, expressions_on, passes_on, wait_again};
 use crate::names::for_in_on;
 use crate::run::{Ended, Here, Run, clear, leave_job, take_value, wait};
@@ -273,7 +273,7 @@ fn if_on(
         run.old run.new how out.new) }
     ensures kept { Kept (trees_of here.now.site.now.codes.now.items) here.now.site.now.widget store.old store.new }
 {
-    match operand_on(here, run, store, e, deep, out)? {
+    match condition_on(here, run, store, e, deep, out)? {
         Ended::Is => branch_on(here, run, store, id, deep, out),
         how => hand_branch(run, how, id, &here.at),
     }

@@ -83,8 +83,9 @@ fn whole_in(value: &Value) -> Option<i64>
     }
 }
 
+/// The same on two whole numbers themselves.
 #[inline(always)]
-fn on_wholes(op: BinOp, x: i64, y: i64) -> Option<Value>
+pub(crate) fn on_wholes(op: BinOp, x: i64, y: i64) -> Option<Value>
     ensures gives { IfSome result (λ v. (w : ℕ) (cells : List PlainCell) (d : ℕ) (s : State)
         → expressions.operate op (meaning.Num x) (meaning.Num y) d s ≡ Ret (meaning.Is (seen w cells v)) s) }
     ensures fine { IfSome result (λ v. (w : ℕ) (cells : List PlainCell) → IsFine w cells v) }

@@ -32,7 +32,8 @@ use Rattle.widget_meaning.specs.Plan.{Do, Eval, ForInLoop, Halt, Pass, Plan, Ret
 use Rattle.widget_meaning.specs.Values.{E1, Value}
 use Rattle.js_image.specs.Image.{Rest, all_seen, function_in, image, no_rest, seen}
 use Rattle.js_image.specs.Plans.{IsScopeMade, made_plan, meant_cause, scope_of, scope_plan}
-use Rattle.js_direct.proofs.Adding.{sum_comes}
+use Rattle.js_direct.proofs.Adding.{operated_comes, sum_comes}
+use Rattle.js_direct.proofs.Reducing.{paid, starts}
 use Rattle.js_image.proofs.Units.{kept_then}
 use Rattle.js_names.specs.Code.{trees_of}
 use Rattle.js_flow.specs.Parts.{HasStmt, IsBlock, arguments_of, block_list, catch_body, catch_of, clauses_of, decls_of, elements_of, else_of, finally_body, finally_of, forest_at, loop_body, loop_of, properties_of, then_of, variable_of}
@@ -182,13 +183,13 @@ arrays::element_on-put_element-requires-clause-ready t c =
     let fs = trees_of c.args.here.now.site.now.codes.now.items in
     let w = c.args.here.now.site.now.widget in
     let old = c.args.store.now in
-    let mid = c.eval_on.new.store in
+    let mid = c.operand_on.new.store in
     let place = c.args.here.now.at in
     let p : State → Plan = λ s. Do (job_of fs w old.cells (job.Eval c.args.at.3 place)) s Ret in
     let had = c.args.run.now in
-    let has = c.eval_on.new.run in
+    let has = c.operand_on.new.run in
     let how = c.in_ok-how.how in
-    let out = c.eval_on.new.out in
+    let out = c.operand_on.new.out in
     let part = c.in_ok-how.ensures.comes in
     let kept = c.in_ok-how.ensures.kept in
     value_ready fs w old mid 0 p had has how (ended_as how out) part c.in-Is.is kept c.requires.ready
@@ -198,13 +199,13 @@ arrays::element_on-put_element-requires-clause-held t c =
     let fs = trees_of c.args.here.now.site.now.codes.now.items in
     let w = c.args.here.now.site.now.widget in
     let old = c.args.store.now in
-    let mid = c.eval_on.new.store in
+    let mid = c.operand_on.new.store in
     let place = c.args.here.now.at in
     let p : State → Plan = λ s. Do (job_of fs w old.cells (job.Eval c.args.at.3 place)) s Ret in
     let had = c.args.run.now in
-    let has = c.eval_on.new.run in
+    let has = c.operand_on.new.run in
     let how = c.in_ok-how.how in
-    let out = c.eval_on.new.out in
+    let out = c.operand_on.new.out in
     let part = c.in_ok-how.ensures.comes in
     let kept = c.in_ok-how.ensures.kept in
     (held_stays w old.cells mid.cells kept.grows c.args.at.0 c.requires.held.0, value_fine fs w old mid 0 p had has how out part c.in-Is.is)
@@ -214,13 +215,13 @@ arrays::element_on-returns-in-Is-clause-goes t c =
     let fs = trees_of c.args.here.now.site.now.codes.now.items in
     let w = c.args.here.now.site.now.widget in
     let old = c.args.store.now in
-    let mid = c.eval_on.new.store in
+    let mid = c.operand_on.new.store in
     let place = c.args.here.now.at in
     let p : State → Plan = λ s. Do (job_of fs w old.cells (job.Eval c.args.at.3 place)) s Ret in
     let had = c.args.run.now in
-    let has = c.eval_on.new.run in
+    let has = c.operand_on.new.run in
     let how = c.in_ok-how.how in
-    let out = c.eval_on.new.out in
+    let out = c.operand_on.new.out in
     let part = c.in_ok-how.ensures.comes in
     let kept = c.in_ok-how.ensures.kept in
     let n = c.args.at.2 in
@@ -247,13 +248,13 @@ arrays::element_on-returns-in-Is-clause-comes t c =
     let fs = trees_of c.args.here.now.site.now.codes.now.items in
     let w = c.args.here.now.site.now.widget in
     let old = c.args.store.now in
-    let mid = c.eval_on.new.store in
+    let mid = c.operand_on.new.store in
     let place = c.args.here.now.at in
     let p : State → Plan = λ s. Do (job_of fs w old.cells (job.Eval c.args.at.3 place)) s Ret in
     let had = c.args.run.now in
-    let has = c.eval_on.new.run in
+    let has = c.operand_on.new.run in
     let how = c.in_ok-how.how in
-    let out = c.eval_on.new.out in
+    let out = c.operand_on.new.out in
     let part = c.in_ok-how.ensures.comes in
     let kept = c.in_ok-how.ensures.kept in
     let n = c.args.at.2 in
@@ -273,7 +274,7 @@ arrays::element_on-returns-in-Is-clause-comes t c =
 
 pub arrays::element_on-returns-in-Is-clause-kept : goal.arrays::element_on-returns-in-Is-clause-kept
 arrays::element_on-returns-in-Is-clause-kept t c =
-    kept_then (trees_of c.args.here.now.site.now.codes.now.items) c.args.here.now.site.now.widget c.args.store.now c.eval_on.new.store c.put_element.new.store c.in_ok-how.ensures.kept c.put_element.ensures.kept
+    kept_then (trees_of c.args.here.now.site.now.codes.now.items) c.args.here.now.site.now.widget c.args.store.now c.operand_on.new.store c.put_element.new.store c.in_ok-how.ensures.kept c.put_element.ensures.kept
 
 pub arrays::element_on-returns-in-Left-clause-goes : goal.arrays::element_on-returns-in-Left-clause-goes
 arrays::element_on-returns-in-Left-clause-goes t c = IfOk-weaker c.wait.result _ _ (λ h x t. absurd (left_no_value h x t)) c.wait.ensures.left
@@ -283,13 +284,13 @@ arrays::element_on-returns-in-Left-clause-comes t c =
     let fs = trees_of c.args.here.now.site.now.codes.now.items in
     let w = c.args.here.now.site.now.widget in
     let old = c.args.store.now in
-    let mid = c.eval_on.new.store in
+    let mid = c.operand_on.new.store in
     let place = c.args.here.now.at in
     let p : State → Plan = λ s. Do (job_of fs w old.cells (job.Eval c.args.at.3 place)) s Ret in
     let had = c.args.run.now in
-    let has = c.eval_on.new.run in
+    let has = c.operand_on.new.run in
     let how = c.in_ok-how.how in
-    let out = c.eval_on.new.out in
+    let out = c.operand_on.new.out in
     let part = c.in_ok-how.ensures.comes in
     let kept = c.in_ok-how.ensures.kept in
     let n = c.args.at.2 in
@@ -309,13 +310,13 @@ arrays::element_on-returns-in_default t c =
     let fs = trees_of c.args.here.now.site.now.codes.now.items in
     let w = c.args.here.now.site.now.widget in
     let old = c.args.store.now in
-    let mid = c.eval_on.new.store in
+    let mid = c.operand_on.new.store in
     let place = c.args.here.now.at in
     let p : State → Plan = λ s. Do (job_of fs w old.cells (job.Eval c.args.at.3 place)) s Ret in
     let had = c.args.run.now in
-    let has = c.eval_on.new.run in
+    let has = c.operand_on.new.run in
     let how = c.in_ok-how.how in
-    let out = c.eval_on.new.out in
+    let out = c.operand_on.new.out in
     let part = c.in_ok-how.ensures.comes in
     let kept = c.in_ok-how.ensures.kept in
     let n = c.args.at.2 in
@@ -587,7 +588,7 @@ assigning::assign_with-compute_on-requires-clause-ready t c =
     let fs = trees_of c.args.here.now.site.now.codes.now.items in
     let w = c.args.here.now.site.now.widget in
     let s = c.args.store.now in
-    value_ready fs w s c.eval_on.new.store 0 (λ t. Do (job_of fs w s.cells (job.Eval c.args.by.1 c.args.here.now.at)) t Ret) c.args.run.now c.eval_on.new.run c.in_ok-other.other _ c.in_ok-other.ensures.comes c.in-Is.is c.eval_on.ensures.kept c.requires.ready
+    value_ready fs w s c.operand_on.new.store 0 (λ t. Do (job_of fs w s.cells (job.Eval c.args.by.1 c.args.here.now.at)) t Ret) c.args.run.now c.operand_on.new.run c.in_ok-other.other _ c.in_ok-other.ensures.comes c.in-Is.is c.operand_on.ensures.kept c.requires.ready
 
 pub assigning::assign_with-compute_on-requires-clause-held : goal.assigning::assign_with-compute_on-requires-clause-held
 assigning::assign_with-compute_on-requires-clause-held t c =
@@ -595,17 +596,17 @@ assigning::assign_with-compute_on-requires-clause-held t c =
     let w = c.args.here.now.site.now.widget in
     let s = c.args.store.now in
     let to : Assigning = record { op = c.args.by.0; of = c.args.of.now; has = c.args.has.now; place = c.args.here.now.at } in
-    let t = c.eval_on.new.store in
-    let g = c.eval_on.ensures.kept.grows in
+    let t = c.operand_on.new.store in
+    let g = c.operand_on.ensures.kept.grows in
     let held : FineAssigning fs w s.cells to = (c.requires.held.1, c.requires.held.2, c.requires.held.0.0) in (
       reference_fine w s.cells t.cells g to.of held.0,
       fine_stays w s.cells t.cells g to.has held.1,
-      value_fine fs w s t 0 (λ t. Do (job_of fs w s.cells (job.Eval c.args.by.1 c.args.here.now.at)) t Ret) c.args.run.now c.eval_on.new.run c.in_ok-other.other c.eval_on.new.out c.in_ok-other.ensures.comes c.in-Is.is,
+      value_fine fs w s t 0 (λ t. Do (job_of fs w s.cells (job.Eval c.args.by.1 c.args.here.now.at)) t Ret) c.args.run.now c.operand_on.new.run c.in_ok-other.other c.operand_on.new.out c.in_ok-other.ensures.comes c.in-Is.is,
     )
 
 pub assigning::assign_with-compute_on-requires-clause-place : goal.assigning::assign_with-compute_on-requires-clause-place
 assigning::assign_with-compute_on-requires-clause-place t c =
-    place_fine (trees_of c.args.here.now.site.now.codes.now.items) c.args.here.now.site.now.widget c.args.store.now.cells c.eval_on.new.store.cells c.eval_on.ensures.kept.grows c.args.here.now.at c.requires.held.0.0
+    place_fine (trees_of c.args.here.now.site.now.codes.now.items) c.args.here.now.site.now.widget c.args.store.now.cells c.operand_on.new.store.cells c.operand_on.ensures.kept.grows c.args.here.now.at c.requires.held.0.0
 
 pub assigning::assign_with-returns-in-Is-clause-comes : goal.assigning::assign_with-returns-in-Is-clause-comes
 assigning::assign_with-returns-in-Is-clause-comes t c =
@@ -613,12 +614,12 @@ assigning::assign_with-returns-in-Is-clause-comes t c =
     let w = c.args.here.now.site.now.widget in
     let s = c.args.store.now in
     let to : Assigning = record { op = c.args.by.0; of = c.args.of.now; has = c.args.has.now; place = c.args.here.now.at } in
-    let t = c.eval_on.new.store in
-    let g = c.eval_on.ensures.kept.grows in
+    let t = c.operand_on.new.store in
+    let g = c.operand_on.ensures.kept.grows in
     let held : FineAssigning fs w s.cells to = (c.requires.held.1, c.requires.held.2, c.requires.held.0.0) in
     let k = λ (x : List PlainCell). assign_with to.op (reference_of w x to.of) (seen w x to.has) (place_of w x to.place) in
     IfOk-weaker c.compute_on.result _ _
-    (λ how h. goes_on fs w s t c.compute_on.new.store 0 12 12 (λ t. Do (job_of fs w s.cells (job.Eval c.args.by.1 c.args.here.now.at)) t Ret) (k s.cells) (k t.cells) c.args.run.now c.eval_on.new.run c.compute_on.new.run c.in_ok-other.other how c.eval_on.new.out (ended_as how c.compute_on.new.out)
+    (λ how h. goes_on fs w s t c.compute_on.new.store 0 12 12 (λ t. Do (job_of fs w s.cells (job.Eval c.args.by.1 c.args.here.now.at)) t Ret) (k s.cells) (k t.cells) c.args.run.now c.operand_on.new.run c.compute_on.new.run c.in_ok-other.other how c.operand_on.new.out (ended_as how c.compute_on.new.out)
     c.in_ok-other.ensures.comes c.in-Is.is (λ i. assign_with to.op (sym (reference_same w s.cells t.cells g to.of held.0) i) (sym (seen_stays w s.cells t.cells g to.has held.1) i) (sym (place_same fs w s.cells t.cells g to.place held.2) i)) h (omega arith))
     c.compute_on.ensures.comes
 
@@ -627,7 +628,7 @@ assigning::assign_with-returns-in-Is-clause-kept t c =
     let fs = trees_of c.args.here.now.site.now.codes.now.items in
     let w = c.args.here.now.site.now.widget in
     let s = c.args.store.now in
-    kept_then fs w s c.eval_on.new.store c.compute_on.new.store c.eval_on.ensures.kept c.compute_on.ensures.kept
+    kept_then fs w s c.operand_on.new.store c.compute_on.new.store c.operand_on.ensures.kept c.compute_on.ensures.kept
 
 pub assigning::assign_with-returns-in_ok-boxed-in-Left-clause-comes : goal.assigning::assign_with-returns-in_ok-boxed-in-Left-clause-comes
 assigning::assign_with-returns-in_ok-boxed-in-Left-clause-comes t c =
@@ -635,18 +636,18 @@ assigning::assign_with-returns-in_ok-boxed-in-Left-clause-comes t c =
     let w = c.args.here.now.site.now.widget in
     let s = c.args.store.now in
     let to : Assigning = record { op = c.args.by.0; of = c.args.of.now; has = c.args.has.now; place = c.args.here.now.at } in
-    let t = c.eval_on.new.store in
-    let g = c.eval_on.ensures.kept.grows in
+    let t = c.operand_on.new.store in
+    let g = c.operand_on.ensures.kept.grows in
     let held : FineAssigning fs w s.cells to = (c.requires.held.1, c.requires.held.2, c.requires.held.0.0) in
     let b = c.in_ok-boxed-in-Left.boxed in
     let same = c.in_ok-boxed-in-Left.ensures in
     let j = job_of fs w s.cells (job.Eval c.args.by.1 c.args.here.now.at) in
     let k = λ (a : Assigning). assign_with a.op (reference_of w s.cells a.of) (seen w s.cells a.has) (place_of w s.cells a.place) in
     IfOk-weaker c.wait.result _ _
-    (λ how h. instead fs w s t 12 12 (λ x. Do j x (k b.value)) (λ x. Do j x (k to)) c.args.run.now c.wait.new.run how (ended_as how c.eval_on.new.out) h
+    (λ how h. instead fs w s t 12 12 (λ x. Do j x (k b.value)) (λ x. Do j x (k to)) c.args.run.now c.wait.new.run how (ended_as how c.operand_on.new.out) h
     (λ r. ap (λ (a : Assigning). Do j (image fs r w s) (k a)) (sym same)) (omega arith))
-    (frame_waits fs w c.wait.result s t 0 12 (λ t. Do (job_of fs w s.cells (job.Eval c.args.by.1 c.args.here.now.at)) t Ret) (frame.Form (form.AssignWith b)) c.args.run.now c.eval_on.new.run c.wait.new.run c.in_ok-other.other (ended_as c.in_ok-other.other c.eval_on.new.out) (λ h. ended_as h c.eval_on.new.out)
-    c.in_ok-other.ensures.comes c.in-Left.is c.eval_on.ensures.kept (subst (λ (a : Assigning). FineAssigning fs w s.cells a) (sym same) held) (omega arith) c.wait.ensures.left c.wait.ensures.waits c.wait.ensures.next c.wait.ensures.units)
+    (frame_waits fs w c.wait.result s t 0 12 (λ t. Do (job_of fs w s.cells (job.Eval c.args.by.1 c.args.here.now.at)) t Ret) (frame.Form (form.AssignWith b)) c.args.run.now c.operand_on.new.run c.wait.new.run c.in_ok-other.other (ended_as c.in_ok-other.other c.operand_on.new.out) (λ h. ended_as h c.operand_on.new.out)
+    c.in_ok-other.ensures.comes c.in-Left.is c.operand_on.ensures.kept (subst (λ (a : Assigning). FineAssigning fs w s.cells a) (sym same) held) (omega arith) c.wait.ensures.left c.wait.ensures.waits c.wait.ensures.next c.wait.ensures.units)
 
 pub assigning::assign_with-returns-in_default : goal.assigning::assign_with-returns-in_default
 assigning::assign_with-returns-in_default t c =
@@ -654,13 +655,13 @@ assigning::assign_with-returns-in_default t c =
     let w = c.args.here.now.site.now.widget in
     let s = c.args.store.now in
     let to : Assigning = record { op = c.args.by.0; of = c.args.of.now; has = c.args.has.now; place = c.args.here.now.at } in
-    let t = c.eval_on.new.store in
-    let g = c.eval_on.ensures.kept.grows in
+    let t = c.operand_on.new.store in
+    let g = c.operand_on.ensures.kept.grows in
     let held : FineAssigning fs w s.cells to = (c.requires.held.1, c.requires.held.2, c.requires.held.0.0) in
     let k = λ (x : List PlainCell). assign_with to.op (reference_of w x to.of) (seen w x to.has) (place_of w x to.place) in
     record {
-      comes = goes_past fs w s t 0 12 (λ t. Do (job_of fs w s.cells (job.Eval c.args.by.1 c.args.here.now.at)) t Ret) (k s.cells) c.args.run.now c.eval_on.new.run c.in_ok-other.other c.eval_on.new.out c.in_ok-other.ensures.comes c.in_default.not-Is c.in_default.not-Left (λ o x h. no_value o x _ h) (omega arith);
-      kept = c.eval_on.ensures.kept;
+      comes = goes_past fs w s t 0 12 (λ t. Do (job_of fs w s.cells (job.Eval c.args.by.1 c.args.here.now.at)) t Ret) (k s.cells) c.args.run.now c.operand_on.new.run c.in_ok-other.other c.operand_on.new.out c.in_ok-other.ensures.comes c.in_default.not-Is c.in_default.not-Left (λ o x h. no_value o x _ h) (omega arith);
+      kept = c.operand_on.ensures.kept;
     }
 
 pub assigning::compute_with-computed_name-requires-clause-ready : goal.assigning::compute_with-computed_name-requires-clause-ready
@@ -2735,6 +2736,91 @@ forms::operand_on-returns-in-Sub-clause-comes t c =
     (λ x. and_then_ret (body j x) ∙ at_eval fs at.code f c.args.id c.expr.result.now c.requires.tree c.expr.ensures.same pl x ∙ ap (λ (e : Expr). expression (plain_form g e) pl x) c.in-Sub.is) h (omega arith))
     c.sub_on.ensures.comes
 
+pub forms::operand_on-returns-in-Dot-clause-comes : goal.forms::operand_on-returns-in-Dot-clause-comes
+forms::operand_on-returns-in-Dot-clause-comes t c =
+    let fs = trees_of c.args.here.now.site.now.codes.now.items in
+    let w = c.args.here.now.site.now.widget in
+    let s = c.args.store.now in
+    let at = c.args.here.now.at in
+    let f = trees c.args.here.now.tree.now in
+    let g = forest_at fs at.code in
+    let pl = place_of w s.cells at in
+    let j = job_of fs w s.cells (job.Eval c.args.id at) in
+    let todo : State → Plan = λ x. Do (job_of fs w s.cells (job.Eval c.in-Dot.e at)) x (taken fs w s.cells (frame.Form (form.Dot c.in-Dot.name))) in
+    IfOk-weaker c.dot_on.result _ _
+    (λ how h. unit_first fs w s c.dot_on.new.store 30 0 j todo Ret c.args.run.now _ c.dot_on.new.run how (ended_as how c.dot_on.new.out) (less_one c.args.run.now.units c.if-run-eq0.false)
+    (λ x. and_then_ret (body j x) ∙ at_eval fs at.code f c.args.id c.expr.result.now c.requires.tree c.expr.ensures.same pl x ∙ ap (λ (e : Expr). expression (plain_form g e) pl x) c.in-Dot.is) h (omega arith))
+    c.dot_on.ensures.comes
+
+pub forms::operand_on-returns-in-Call-clause-comes : goal.forms::operand_on-returns-in-Call-clause-comes
+forms::operand_on-returns-in-Call-clause-comes t c =
+    let fs = trees_of c.args.here.now.site.now.codes.now.items in
+    let w = c.args.here.now.site.now.widget in
+    let s = c.args.store.now in
+    let at = c.args.here.now.at in
+    let f = trees c.args.here.now.tree.now in
+    let g = forest_at fs at.code in
+    let pl = place_of w s.cells at in
+    let j = job_of fs w s.cells (job.Eval c.args.id at) in
+    let i = expr_at g c.args.id in
+    let asked : Tree → State → Plan = λ e x. Do (plan.Target (expr_at g c.in-Call.callee) pl) x (callee (arguments_of e) pl) in
+    let todo : State → Plan = asked i in
+    IfOk-weaker c.call_on.result _ _
+    (λ how h. unit_first fs w s c.call_on.new.store 30 0 j todo Ret c.args.run.now _ c.call_on.new.run how (ended_as how c.call_on.new.out) (less_one c.args.run.now.units c.if-run-eq0.false)
+    (λ x. and_then_ret (body j x) ∙ at_eval fs at.code f c.args.id c.expr.result.now c.requires.tree c.expr.ensures.same pl x ∙ ap (λ (e : Expr). expression (plain_form g e) pl x) c.in-Call.is
+    ∙ ap (λ (e : Tree). asked e x) (ap (λ (n : Expr). plain_expr g n (expr_place i) (expr_names i)) (sym c.in-Call.is)
+    ∙ node_same fs at.code f c.args.id c.expr.result.now c.requires.tree c.expr.ensures.same)) h (omega arith))
+    c.call_on.ensures.comes
+
+pub forms::operand_on-returns-in-Assign-clause-comes : goal.forms::operand_on-returns-in-Assign-clause-comes
+forms::operand_on-returns-in-Assign-clause-comes t c =
+    let fs = trees_of c.args.here.now.site.now.codes.now.items in
+    let w = c.args.here.now.site.now.widget in
+    let s = c.args.store.now in
+    let at = c.args.here.now.at in
+    let f = trees c.args.here.now.tree.now in
+    let g = forest_at fs at.code in
+    let pl = place_of w s.cells at in
+    let j = job_of fs w s.cells (job.Eval c.args.id at) in
+    let todo : State → Plan = λ x. Do (job_of fs w s.cells (job.Target c.in-Assign.to at)) x (taken fs w s.cells (frame.Form (form.AssignTarget c.in-Assign.op c.in-Assign.e at))) in
+    IfOk-weaker c.assign_on.result _ _
+    (λ how h. unit_first fs w s c.assign_on.new.store 30 0 j todo Ret c.args.run.now _ c.assign_on.new.run how (ended_as how c.assign_on.new.out) (less_one c.args.run.now.units c.if-run-eq0.false)
+    (λ x. and_then_ret (body j x) ∙ at_eval fs at.code f c.args.id c.expr.result.now c.requires.tree c.expr.ensures.same pl x ∙ ap (λ (e : Expr). expression (plain_form g e) pl x) c.in-Assign.is) h (omega arith))
+    c.assign_on.ensures.comes
+
+pub forms::operand_on-returns-in-Some-clause-comes : goal.forms::operand_on-returns-in-Some-clause-comes
+forms::operand_on-returns-in-Some-clause-comes t c =
+    let fs = trees_of c.args.here.now.site.now.codes.now.items in
+    let w = c.args.here.now.site.now.widget in
+    let s = c.args.store.now in
+    let at = c.args.here.now.at in
+    let f = trees c.args.here.now.tree.now in
+    let g = forest_at fs at.code in
+    let pl = place_of w s.cells at in
+    let j = job_of fs w s.cells (job.Eval c.args.id at) in
+    let y = c.in-Some.y in
+    let same : to_z w64 (of_z w64 y) ≡ y = search rules in
+    operated_comes fs w s 0 2 (omega arith) (λ x. Do j x Ret) c.args.run.now (record c.args.run.now { units = c.args.run.now.units - 2 }) c.set_value.new.out (value.Num (number.Whole y)) (c.set_value.ensures ∙ ap (λ (k : ℤ). value.Num (number.Whole k)) same) (omega (arith, c.in-Some.ensures.units)) c.requires.ready.2
+    (λ r. let x = image fs r w s in paid 1 j x Ret _ (starts 1 _ _ _
+    (and_then_ret (body j x) ∙ at_eval fs at.code f c.args.id c.expr.result.now c.requires.tree c.expr.ensures.same pl x ∙ ap (λ (e : Expr). expression (plain_form g e) pl x) c.in-Unary.is) (c.in-Some.ensures.paid r))) tt
+
+pub forms::operand_on-overflow_sub-run-in-Some : goal.forms::operand_on-overflow_sub-run-in-Some
+forms::operand_on-overflow_sub-run-in-Some t c = omega (arith, c.in-Some.ensures.units)
+
+pub forms::condition_on-compared-requires-clause-confined : goal.forms::condition_on-compared-requires-clause-confined
+forms::condition_on-compared-requires-clause-confined t c = c.requires.ready.1
+
+pub forms::condition_on-overflow_sub-run : goal.forms::condition_on-overflow_sub-run
+forms::condition_on-overflow_sub-run t c = omega (arith, c.in-Some.ensures.units)
+
+pub forms::condition_on-returns-in-Some-clause-comes : goal.forms::condition_on-returns-in-Some-clause-comes
+forms::condition_on-returns-in-Some-clause-comes t c =
+    let fs = trees_of c.args.here.now.site.now.codes.now.items in
+    let w = c.args.here.now.site.now.widget in
+    let s = c.args.store.now in
+    let j = job_of fs w s.cells (job.Eval c.args.id c.args.here.now.at) in
+    operated_comes fs w s 0 3 (omega arith) (λ x. Do j x Ret) c.args.run.now (record c.args.run.now { units = c.args.run.now.units - 3 }) c.set_value.new.out (value.Bool c.in-Some.told) c.set_value.ensures (omega (arith, c.in-Some.ensures.units)) c.requires.ready.2 c.in-Some.ensures.paid tt
+
 pub forms::form_on-returns-in-Name-clause-comes : goal.forms::form_on-returns-in-Name-clause-comes
 forms::form_on-returns-in-Name-clause-comes t c =
     let fs = trees_of c.args.here.now.site.now.codes.now.items in
@@ -3066,12 +3152,12 @@ looping::tested_on-returns-in-Is-clause-passes t c =
     let fs = trees_of c.args.here.now.site.now.codes.now.items in
     let w = c.args.here.now.site.now.widget in
     let old = c.args.store.now in
-    let mid = c.operand_on.new.store in
+    let mid = c.condition_on.new.store in
     let p : State → Plan = λ s. Do (job_of fs w old.cells (job.Eval c.args.e c.args.here.now.at)) s Ret in
     let had = c.args.run.now in
-    let has = c.operand_on.new.run in
+    let has = c.condition_on.new.run in
     let how = c.in_ok-how.how in
-    let out = c.operand_on.new.out in
+    let out = c.condition_on.new.out in
     let part = c.in_ok-how.ensures.comes in
     let kept = c.in_ok-how.ensures.kept in
     let f = (frame.Statement (statement.Test c.args.id c.args.here.now.at)) in
@@ -3084,12 +3170,12 @@ looping::tested_on-returns-in_ok-hand_test-in_default-clause-passes t c =
     let fs = trees_of c.args.here.now.site.now.codes.now.items in
     let w = c.args.here.now.site.now.widget in
     let old = c.args.store.now in
-    let mid = c.operand_on.new.store in
+    let mid = c.condition_on.new.store in
     let p : State → Plan = λ s. Do (job_of fs w old.cells (job.Eval c.args.e c.args.here.now.at)) s Ret in
     let had = c.args.run.now in
-    let has = c.operand_on.new.run in
+    let has = c.condition_on.new.run in
     let how = c.in_ok-how.how in
-    let out = c.operand_on.new.out in
+    let out = c.condition_on.new.out in
     let part = c.in_ok-how.ensures.comes in
     let kept = c.in_ok-how.ensures.kept in
     let f = (frame.Statement (statement.Test c.args.id c.args.here.now.at)) in
@@ -3370,7 +3456,7 @@ pub looping::expressions_on-returns-in_err-how-clause-kept : goal.looping::expre
 looping::expressions_on-returns-in_err-how-clause-kept t c =
     let fs = trees_of c.args.here.now.site.now.codes.now.items in
     let w = c.args.here.now.site.now.widget in
-    kept_then fs w c.args.store.now c.list.store c.eval_on.new.store c.list.invariant.1 c.in_err-how.ensures.kept
+    kept_then fs w c.args.store.now c.list.store c.operand_on.new.store c.list.invariant.1 c.in_err-how.ensures.kept
 
 pub looping::expressions_on-list-preserved : goal.looping::expressions_on-list-preserved
 looping::expressions_on-list-preserved t c =
@@ -3378,7 +3464,7 @@ looping::expressions_on-list-preserved t c =
     let w = c.args.here.now.site.now.widget in
     let s0 = c.args.store.now in
     let s1 = c.list.store in
-    let s2 = c.eval_on.new.store in
+    let s2 = c.operand_on.new.store in
     let i = stmt_at (forest_at fs c.args.here.now.at.code) c.args.id in
     let es = part_of c.args.part i in
     let p : State → Plan = λ s. Do (job_of fs w s1.cells (job.Eval c.in-Some.e c.args.here.now.at)) s Ret in
@@ -3389,14 +3475,14 @@ looping::expressions_on-list-preserved t c =
     let inv = c.list.invariant in
     let kept = c.in_ok-how.ensures.kept in
     let how = c.in_ok-how.how in
-    let out = c.eval_on.new.out in
+    let out = c.operand_on.new.out in
     let held : FineFrame fs w s1.cells f = part_fine fs w s1.cells c.args.part c.args.id (c.list.n + 1) c.args.here.now.at inv.2 in
     let listed = subst (λ (g : Forest). drop c.list.n (part_of c.args.part (stmt_at g c.args.id)) ≡ expr_at g c.in-Some.e ∷ drop (c.list.n + 1) (part_of c.args.part (stmt_at g c.args.id))) c.requires.tree c.in-Some.ensures.2 in
     let plan : (s : State) → q s ≡ and_then (p s) (taken fs w s1.cells f) = λ s. ap (λ l. statements_2.expressions l (place_of w s1.cells c.args.here.now.at) s) listed
     ∙ sym (λ k. Do (job_of fs w s1.cells (job.Eval c.in-Some.e c.args.here.now.at)) s (λ o t. part_taken fs w s1.cells c.args.part c.args.id (c.list.n + 1) c.args.here.now.at o t k)) in
-    let one = as_is fs w s1 s2 0 p c.list.run c.eval_on.new.run how ended.Is out c.in-Is.is c.in_ok-how.ensures.comes in (
-      towards_each fs w s0 s1 s2 start q goes c.args.run.now c.list.run c.eval_on.new.run inv.0
-          (part_next fs w s1 s2 0 q p goes f c.list.run c.eval_on.new.run ended.Is (ended_as ended.Is out) plan one tt kept.grows held (end_ready fs w s1 s2 0 p c.list.run c.eval_on.new.run ended.Is (ended_as ended.Is out) one tt inv.0.ready kept)
+    let one = as_is fs w s1 s2 0 p c.list.run c.operand_on.new.run how ended.Is out c.in-Is.is c.in_ok-how.ensures.comes in (
+      towards_each fs w s0 s1 s2 start q goes c.args.run.now c.list.run c.operand_on.new.run inv.0
+          (part_next fs w s1 s2 0 q p goes f c.list.run c.operand_on.new.run ended.Is (ended_as ended.Is out) plan one tt kept.grows held (end_ready fs w s1 s2 0 p c.list.run c.operand_on.new.run ended.Is (ended_as ended.Is out) one tt inv.0.ready kept)
           (λ r. part_taken fs w s2.cells c.args.part c.args.id (c.list.n + 1) c.args.here.now.at (completion_of w s2.cells (ended_as ended.Is out)) (image fs r w s2))),
       kept_then fs w s0 s1 s2 inv.1 kept,
       (place_fine fs w s1.cells s2.cells kept.grows c.args.here.now.at inv.2.0, inv.2.1),
@@ -3408,7 +3494,7 @@ looping::expressions_on-returns-in-Left-clause-comes t c =
     let w = c.args.here.now.site.now.widget in
     let s0 = c.args.store.now in
     let s1 = c.list.store in
-    let s2 = c.eval_on.new.store in
+    let s2 = c.operand_on.new.store in
     let i = stmt_at (forest_at fs c.args.here.now.at.code) c.args.id in
     let es = part_of c.args.part i in
     let p : State → Plan = λ s. Do (job_of fs w s1.cells (job.Eval c.in-Some.e c.args.here.now.at)) s Ret in
@@ -3419,13 +3505,13 @@ looping::expressions_on-returns-in-Left-clause-comes t c =
     let inv = c.list.invariant in
     let kept = c.in_ok-how.ensures.kept in
     let how = c.in_ok-how.how in
-    let out = c.eval_on.new.out in
+    let out = c.operand_on.new.out in
     let held : FineFrame fs w s1.cells f = part_fine fs w s1.cells c.args.part c.args.id (c.list.n + 1) c.args.here.now.at inv.2 in
     let listed = subst (λ (g : Forest). drop c.list.n (part_of c.args.part (stmt_at g c.args.id)) ≡ expr_at g c.in-Some.e ∷ drop (c.list.n + 1) (part_of c.args.part (stmt_at g c.args.id))) c.requires.tree c.in-Some.ensures.2 in
     let plan : (s : State) → q s ≡ and_then (p s) (taken fs w s1.cells f) = λ s. ap (λ l. statements_2.expressions l (place_of w s1.cells c.args.here.now.at) s) listed
     ∙ sym (λ k. Do (job_of fs w s1.cells (job.Eval c.in-Some.e c.args.here.now.at)) s (λ o t. part_taken fs w s1.cells c.args.part c.args.id (c.list.n + 1) c.args.here.now.at o t k)) in
-    let one = as_is fs w s1 s2 0 p c.list.run c.eval_on.new.run how ended.Left out c.in-Left.is c.in_ok-how.ensures.comes in
-    waits_then fs w c.wait_part.result s0 s1 s2 0 1 1 start q p f c.args.run.now c.list.run c.eval_on.new.run c.wait_part.new.run ended.Left (ended_as ended.Left out) _ inv.0 plan one refl kept.grows held
+    let one = as_is fs w s1 s2 0 p c.list.run c.operand_on.new.run how ended.Left out c.in-Left.is c.in_ok-how.ensures.comes in
+    waits_then fs w c.wait_part.result s0 s1 s2 0 1 1 start q p f c.args.run.now c.list.run c.operand_on.new.run c.wait_part.new.run ended.Left (ended_as ended.Left out) _ inv.0 plan one refl kept.grows held
     c.wait_part.ensures.left c.wait_part.ensures.waits c.wait_part.ensures.next c.wait_part.ensures.units (omega (arith, part_free c.args.part c.args.id (c.list.n + 1) c.args.here.now.at)) (omega arith)
 
 pub looping::expressions_on-returns-in-Left-clause-kept : goal.looping::expressions_on-returns-in-Left-clause-kept
@@ -3434,7 +3520,7 @@ looping::expressions_on-returns-in-Left-clause-kept t c =
     let w = c.args.here.now.site.now.widget in
     let s0 = c.args.store.now in
     let s1 = c.list.store in
-    let s2 = c.eval_on.new.store in
+    let s2 = c.operand_on.new.store in
     let i = stmt_at (forest_at fs c.args.here.now.at.code) c.args.id in
     let es = part_of c.args.part i in
     let p : State → Plan = λ s. Do (job_of fs w s1.cells (job.Eval c.in-Some.e c.args.here.now.at)) s Ret in
@@ -3445,7 +3531,7 @@ looping::expressions_on-returns-in-Left-clause-kept t c =
     let inv = c.list.invariant in
     let kept = c.in_ok-how.ensures.kept in
     let how = c.in_ok-how.how in
-    let out = c.eval_on.new.out in
+    let out = c.operand_on.new.out in
     let held : FineFrame fs w s1.cells f = part_fine fs w s1.cells c.args.part c.args.id (c.list.n + 1) c.args.here.now.at inv.2 in
     let listed = subst (λ (g : Forest). drop c.list.n (part_of c.args.part (stmt_at g c.args.id)) ≡ expr_at g c.in-Some.e ∷ drop (c.list.n + 1) (part_of c.args.part (stmt_at g c.args.id))) c.requires.tree c.in-Some.ensures.2 in
     let plan : (s : State) → q s ≡ and_then (p s) (taken fs w s1.cells f) = λ s. ap (λ l. statements_2.expressions l (place_of w s1.cells c.args.here.now.at) s) listed
@@ -3458,7 +3544,7 @@ looping::expressions_on-returns-in_default-2 t c =
     let w = c.args.here.now.site.now.widget in
     let s0 = c.args.store.now in
     let s1 = c.list.store in
-    let s2 = c.eval_on.new.store in
+    let s2 = c.operand_on.new.store in
     let i = stmt_at (forest_at fs c.args.here.now.at.code) c.args.id in
     let es = part_of c.args.part i in
     let p : State → Plan = λ s. Do (job_of fs w s1.cells (job.Eval c.in-Some.e c.args.here.now.at)) s Ret in
@@ -3469,14 +3555,14 @@ looping::expressions_on-returns-in_default-2 t c =
     let inv = c.list.invariant in
     let kept = c.in_ok-how.ensures.kept in
     let how = c.in_ok-how.how in
-    let out = c.eval_on.new.out in
+    let out = c.operand_on.new.out in
     let held : FineFrame fs w s1.cells f = part_fine fs w s1.cells c.args.part c.args.id (c.list.n + 1) c.args.here.now.at inv.2 in
     let listed = subst (λ (g : Forest). drop c.list.n (part_of c.args.part (stmt_at g c.args.id)) ≡ expr_at g c.in-Some.e ∷ drop (c.list.n + 1) (part_of c.args.part (stmt_at g c.args.id))) c.requires.tree c.in-Some.ensures.2 in
     let plan : (s : State) → q s ≡ and_then (p s) (taken fs w s1.cells f) = λ s. ap (λ l. statements_2.expressions l (place_of w s1.cells c.args.here.now.at) s) listed
     ∙ sym (λ k. Do (job_of fs w s1.cells (job.Eval c.in-Some.e c.args.here.now.at)) s (λ o t. part_taken fs w s1.cells c.args.part c.args.id (c.list.n + 1) c.args.here.now.at o t k)) in
     record {
-      comes = towards_then fs w s0 s1 s2 1 1 start q c.args.run.now c.list.run c.eval_on.new.run how (ended_as how out) inv.0
-          (planned fs w s1 s2 1 q _ c.list.run c.eval_on.new.run how (ended_as how out) plan (other_value fs w s1 s2 0 1 p f (λ v t. goes t) c.list.run c.eval_on.new.run how out c.in_ok-how.ensures.comes c.in_default-2.not-Is c.in_default-2.not-Left kept.grows held (part_taken fs w s2.cells c.args.part c.args.id (c.list.n + 1) c.args.here.now.at) (omega arith))) (omega arith);
+      comes = towards_then fs w s0 s1 s2 1 1 start q c.args.run.now c.list.run c.operand_on.new.run how (ended_as how out) inv.0
+          (planned fs w s1 s2 1 q _ c.list.run c.operand_on.new.run how (ended_as how out) plan (other_value fs w s1 s2 0 1 p f (λ v t. goes t) c.list.run c.operand_on.new.run how out c.in_ok-how.ensures.comes c.in_default-2.not-Is c.in_default-2.not-Left kept.grows held (part_taken fs w s2.cells c.args.part c.args.id (c.list.n + 1) c.args.here.now.at) (omega arith))) (omega arith);
       kept = kept_then fs w s0 s1 s2 inv.1 kept;
     }
 
@@ -4363,13 +4449,13 @@ objects::property_part_on-put_property-requires-clause-ready t c =
     let fs = trees_of c.args.here.now.site.now.codes.now.items in
     let w = c.args.here.now.site.now.widget in
     let old = c.args.store.now in
-    let mid = c.eval_on.new.store in
+    let mid = c.operand_on.new.store in
     let place = c.args.here.now.at in
     let p : State → Plan = λ s. Do (job_of fs w old.cells (job.Eval c.args.part.now.1 place)) s Ret in
     let had = c.args.run.now in
-    let has = c.eval_on.new.run in
+    let has = c.operand_on.new.run in
     let how = c.in_ok-how.how in
-    let out = c.eval_on.new.out in
+    let out = c.operand_on.new.out in
     let part = c.in_ok-how.ensures.comes in
     let kept = c.in_ok-how.ensures.kept in
     value_ready fs w old mid 0 p had has how (ended_as how out) part c.in-Is.is kept c.requires.ready
@@ -4379,13 +4465,13 @@ objects::property_part_on-put_property-requires-clause-held t c =
     let fs = trees_of c.args.here.now.site.now.codes.now.items in
     let w = c.args.here.now.site.now.widget in
     let old = c.args.store.now in
-    let mid = c.eval_on.new.store in
+    let mid = c.operand_on.new.store in
     let place = c.args.here.now.at in
     let p : State → Plan = λ s. Do (job_of fs w old.cells (job.Eval c.args.part.now.1 place)) s Ret in
     let had = c.args.run.now in
-    let has = c.eval_on.new.run in
+    let has = c.operand_on.new.run in
     let how = c.in_ok-how.how in
-    let out = c.eval_on.new.out in
+    let out = c.operand_on.new.out in
     let part = c.in_ok-how.ensures.comes in
     let kept = c.in_ok-how.ensures.kept in
     (held_stays w old.cells mid.cells kept.grows c.args.at.0 c.requires.held.0, value_fine fs w old mid 0 p had has how out part c.in-Is.is)
@@ -4395,13 +4481,13 @@ objects::property_part_on-returns-in-Is-clause-goes t c =
     let fs = trees_of c.args.here.now.site.now.codes.now.items in
     let w = c.args.here.now.site.now.widget in
     let old = c.args.store.now in
-    let mid = c.eval_on.new.store in
+    let mid = c.operand_on.new.store in
     let place = c.args.here.now.at in
     let p : State → Plan = λ s. Do (job_of fs w old.cells (job.Eval c.args.part.now.1 place)) s Ret in
     let had = c.args.run.now in
-    let has = c.eval_on.new.run in
+    let has = c.operand_on.new.run in
     let how = c.in_ok-how.how in
-    let out = c.eval_on.new.out in
+    let out = c.operand_on.new.out in
     let part = c.in_ok-how.ensures.comes in
     let kept = c.in_ok-how.ensures.kept in
     let n = c.args.at.2 in
@@ -4430,13 +4516,13 @@ objects::property_part_on-returns-in-Is-clause-comes t c =
     let fs = trees_of c.args.here.now.site.now.codes.now.items in
     let w = c.args.here.now.site.now.widget in
     let old = c.args.store.now in
-    let mid = c.eval_on.new.store in
+    let mid = c.operand_on.new.store in
     let place = c.args.here.now.at in
     let p : State → Plan = λ s. Do (job_of fs w old.cells (job.Eval c.args.part.now.1 place)) s Ret in
     let had = c.args.run.now in
-    let has = c.eval_on.new.run in
+    let has = c.operand_on.new.run in
     let how = c.in_ok-how.how in
-    let out = c.eval_on.new.out in
+    let out = c.operand_on.new.out in
     let part = c.in_ok-how.ensures.comes in
     let kept = c.in_ok-how.ensures.kept in
     let n = c.args.at.2 in
@@ -4459,7 +4545,7 @@ objects::property_part_on-returns-in-Is-clause-comes t c =
 
 pub objects::property_part_on-returns-in-Is-clause-kept : goal.objects::property_part_on-returns-in-Is-clause-kept
 objects::property_part_on-returns-in-Is-clause-kept t c =
-    kept_then (trees_of c.args.here.now.site.now.codes.now.items) c.args.here.now.site.now.widget c.args.store.now c.eval_on.new.store c.put_property.new.store c.in_ok-how.ensures.kept c.put_property.ensures.kept
+    kept_then (trees_of c.args.here.now.site.now.codes.now.items) c.args.here.now.site.now.widget c.args.store.now c.operand_on.new.store c.put_property.new.store c.in_ok-how.ensures.kept c.put_property.ensures.kept
 
 pub objects::property_part_on-returns-in-Left-clause-goes : goal.objects::property_part_on-returns-in-Left-clause-goes
 objects::property_part_on-returns-in-Left-clause-goes t c = IfOk-weaker c.wait.result _ _ (λ h x t. absurd (left_no_value h x t)) c.wait.ensures.left
@@ -4469,13 +4555,13 @@ objects::property_part_on-returns-in-Left-clause-comes t c =
     let fs = trees_of c.args.here.now.site.now.codes.now.items in
     let w = c.args.here.now.site.now.widget in
     let old = c.args.store.now in
-    let mid = c.eval_on.new.store in
+    let mid = c.operand_on.new.store in
     let place = c.args.here.now.at in
     let p : State → Plan = λ s. Do (job_of fs w old.cells (job.Eval c.args.part.now.1 place)) s Ret in
     let had = c.args.run.now in
-    let has = c.eval_on.new.run in
+    let has = c.operand_on.new.run in
     let how = c.in_ok-how.how in
-    let out = c.eval_on.new.out in
+    let out = c.operand_on.new.out in
     let part = c.in_ok-how.ensures.comes in
     let kept = c.in_ok-how.ensures.kept in
     let n = c.args.at.2 in
@@ -4496,13 +4582,13 @@ objects::property_part_on-returns-in_default t c =
     let fs = trees_of c.args.here.now.site.now.codes.now.items in
     let w = c.args.here.now.site.now.widget in
     let old = c.args.store.now in
-    let mid = c.eval_on.new.store in
+    let mid = c.operand_on.new.store in
     let place = c.args.here.now.at in
     let p : State → Plan = λ s. Do (job_of fs w old.cells (job.Eval c.args.part.now.1 place)) s Ret in
     let had = c.args.run.now in
-    let has = c.eval_on.new.run in
+    let has = c.operand_on.new.run in
     let how = c.in_ok-how.how in
-    let out = c.eval_on.new.out in
+    let out = c.operand_on.new.out in
     let part = c.in_ok-how.ensures.comes in
     let kept = c.in_ok-how.ensures.kept in
     let n = c.args.at.2 in
@@ -4520,6 +4606,27 @@ objects::property_part_on-returns-in_default t c =
           (λ r. first (image fs r w old)) (omega arith);
       kept = kept;
     }
+
+pub operators::binary_on-computed-requires-clause-confined : goal.operators::binary_on-computed-requires-clause-confined
+operators::binary_on-computed-requires-clause-confined t c = c.requires.ready.1
+
+pub operators::binary_on-computed-requires-clause-held : goal.operators::binary_on-computed-requires-clause-held
+operators::binary_on-computed-requires-clause-held t c = c.requires.held
+
+pub operators::binary_on-computed-requires-clause-tree : goal.operators::binary_on-computed-requires-clause-tree
+operators::binary_on-computed-requires-clause-tree t c = c.requires.tree
+
+pub operators::binary_on-overflow_sub-run : goal.operators::binary_on-overflow_sub-run
+operators::binary_on-overflow_sub-run t c = omega (arith, c.in-Some.ensures.units)
+
+pub operators::binary_on-returns-in-Some-clause-comes : goal.operators::binary_on-returns-in-Some-clause-comes
+operators::binary_on-returns-in-Some-clause-comes t c =
+    let fs = trees_of c.args.here.now.site.now.codes.now.items in
+    let w = c.args.here.now.site.now.widget in
+    let s = c.args.store.now in
+    let at = c.args.here.now.at in
+    operated_comes fs w s 30 2 (omega arith) (λ x. Do (job_of fs w s.cells (job.Eval c.args.parts.0 at)) x (taken fs w s.cells (frame.Form (form.Right c.args.op c.args.parts.1 at))))
+    c.args.run.now (record c.args.run.now { units = c.args.run.now.units - 2 }) c.set_value.new.out c.in-Some.value c.set_value.ensures (omega (arith, c.in-Some.ensures.units)) c.requires.ready.2 c.in-Some.ensures.paid c.in-Some.ensures.fine
 
 pub operators::binary_with-right_on-requires : goal.operators::binary_with-right_on-requires
 operators::binary_with-right_on-requires t c = (
@@ -4672,12 +4779,12 @@ operators::and_on-and_right-requires t c = (
         let fs = trees_of c.args.here.now.site.now.codes.now.items in
         let w = c.args.here.now.site.now.widget in
         let old = c.args.store.now in
-        let mid = c.eval_on.new.store in
+        let mid = c.operand_on.new.store in
         let p : State → Plan = λ s. Do (job_of fs w old.cells (job.Eval c.args.parts.0 c.args.here.now.at)) s Ret in
         let had = c.args.run.now in
-        let has = c.eval_on.new.run in
+        let has = c.operand_on.new.run in
         let how = c.in_ok-how.how in
-        let out = c.eval_on.new.out in
+        let out = c.operand_on.new.out in
         let part = c.in_ok-how.ensures.comes in
         let kept = c.in_ok-how.ensures.kept in
         value_ready fs w old mid 0 p had has how (ended_as how out) part c.in-Is.is kept c.requires.ready
@@ -4687,12 +4794,12 @@ operators::and_on-and_right-requires t c = (
           let fs = trees_of c.args.here.now.site.now.codes.now.items in
           let w = c.args.here.now.site.now.widget in
           let old = c.args.store.now in
-          let mid = c.eval_on.new.store in
+          let mid = c.operand_on.new.store in
           let p : State → Plan = λ s. Do (job_of fs w old.cells (job.Eval c.args.parts.0 c.args.here.now.at)) s Ret in
           let had = c.args.run.now in
-          let has = c.eval_on.new.run in
+          let has = c.operand_on.new.run in
           let how = c.in_ok-how.how in
-          let out = c.eval_on.new.out in
+          let out = c.operand_on.new.out in
           let part = c.in_ok-how.ensures.comes in
           let kept = c.in_ok-how.ensures.kept in
           ((place_fine fs w old.cells mid.cells kept.grows c.args.here.now.at c.requires.held.1.0, c.requires.held.1.1), value_fine fs w old mid 0 p had has how out part c.in-Is.is)
@@ -4707,12 +4814,12 @@ operators::and_on-returns-in-Is-clause-comes t c =
     let fs = trees_of c.args.here.now.site.now.codes.now.items in
     let w = c.args.here.now.site.now.widget in
     let old = c.args.store.now in
-    let mid = c.eval_on.new.store in
+    let mid = c.operand_on.new.store in
     let p : State → Plan = λ s. Do (job_of fs w old.cells (job.Eval c.args.parts.0 c.args.here.now.at)) s Ret in
     let had = c.args.run.now in
-    let has = c.eval_on.new.run in
+    let has = c.operand_on.new.run in
     let how = c.in_ok-how.how in
-    let out = c.eval_on.new.out in
+    let out = c.operand_on.new.out in
     let part = c.in_ok-how.ensures.comes in
     let kept = c.in_ok-how.ensures.kept in
     (IfOk-weaker c.and_right.result _ _
@@ -4721,19 +4828,19 @@ operators::and_on-returns-in-Is-clause-comes t c =
 
 pub operators::and_on-returns-in-Is-clause-kept : goal.operators::and_on-returns-in-Is-clause-kept
 operators::and_on-returns-in-Is-clause-kept t c =
-    kept_then (trees_of c.args.here.now.site.now.codes.now.items) c.args.here.now.site.now.widget c.args.store.now c.eval_on.new.store c.and_right.new.store c.in_ok-how.ensures.kept c.and_right.ensures.kept
+    kept_then (trees_of c.args.here.now.site.now.codes.now.items) c.args.here.now.site.now.widget c.args.store.now c.operand_on.new.store c.and_right.new.store c.in_ok-how.ensures.kept c.and_right.ensures.kept
 
 pub operators::and_on-returns-in_default-clause-comes : goal.operators::and_on-returns-in_default-clause-comes
 operators::and_on-returns-in_default-clause-comes t c =
     let fs = trees_of c.args.here.now.site.now.codes.now.items in
     let w = c.args.here.now.site.now.widget in
     let old = c.args.store.now in
-    let mid = c.eval_on.new.store in
+    let mid = c.operand_on.new.store in
     let p : State → Plan = λ s. Do (job_of fs w old.cells (job.Eval c.args.parts.0 c.args.here.now.at)) s Ret in
     let had = c.args.run.now in
-    let has = c.eval_on.new.run in
+    let has = c.operand_on.new.run in
     let how = c.in_ok-how.how in
-    let out = c.eval_on.new.out in
+    let out = c.operand_on.new.out in
     let part = c.in_ok-how.ensures.comes in
     let kept = c.in_ok-how.ensures.kept in
     hand_form fs w c.hand_and.result old mid 0 30 p (form.And c.args.parts.1 c.args.here.now.at) had has c.hand_and.new.run how out part c.in_default.not-Is kept c.requires.held.1 (omega arith) c.hand_and.ensures
@@ -4746,12 +4853,12 @@ operators::or_on-or_right-requires t c = (
         let fs = trees_of c.args.here.now.site.now.codes.now.items in
         let w = c.args.here.now.site.now.widget in
         let old = c.args.store.now in
-        let mid = c.eval_on.new.store in
+        let mid = c.operand_on.new.store in
         let p : State → Plan = λ s. Do (job_of fs w old.cells (job.Eval c.args.parts.0 c.args.here.now.at)) s Ret in
         let had = c.args.run.now in
-        let has = c.eval_on.new.run in
+        let has = c.operand_on.new.run in
         let how = c.in_ok-how.how in
-        let out = c.eval_on.new.out in
+        let out = c.operand_on.new.out in
         let part = c.in_ok-how.ensures.comes in
         let kept = c.in_ok-how.ensures.kept in
         value_ready fs w old mid 0 p had has how (ended_as how out) part c.in-Is.is kept c.requires.ready
@@ -4761,12 +4868,12 @@ operators::or_on-or_right-requires t c = (
           let fs = trees_of c.args.here.now.site.now.codes.now.items in
           let w = c.args.here.now.site.now.widget in
           let old = c.args.store.now in
-          let mid = c.eval_on.new.store in
+          let mid = c.operand_on.new.store in
           let p : State → Plan = λ s. Do (job_of fs w old.cells (job.Eval c.args.parts.0 c.args.here.now.at)) s Ret in
           let had = c.args.run.now in
-          let has = c.eval_on.new.run in
+          let has = c.operand_on.new.run in
           let how = c.in_ok-how.how in
-          let out = c.eval_on.new.out in
+          let out = c.operand_on.new.out in
           let part = c.in_ok-how.ensures.comes in
           let kept = c.in_ok-how.ensures.kept in
           ((place_fine fs w old.cells mid.cells kept.grows c.args.here.now.at c.requires.held.1.0, c.requires.held.1.1), value_fine fs w old mid 0 p had has how out part c.in-Is.is)
@@ -4781,12 +4888,12 @@ operators::or_on-returns-in-Is-clause-comes t c =
     let fs = trees_of c.args.here.now.site.now.codes.now.items in
     let w = c.args.here.now.site.now.widget in
     let old = c.args.store.now in
-    let mid = c.eval_on.new.store in
+    let mid = c.operand_on.new.store in
     let p : State → Plan = λ s. Do (job_of fs w old.cells (job.Eval c.args.parts.0 c.args.here.now.at)) s Ret in
     let had = c.args.run.now in
-    let has = c.eval_on.new.run in
+    let has = c.operand_on.new.run in
     let how = c.in_ok-how.how in
-    let out = c.eval_on.new.out in
+    let out = c.operand_on.new.out in
     let part = c.in_ok-how.ensures.comes in
     let kept = c.in_ok-how.ensures.kept in
     (IfOk-weaker c.or_right.result _ _
@@ -4795,19 +4902,19 @@ operators::or_on-returns-in-Is-clause-comes t c =
 
 pub operators::or_on-returns-in-Is-clause-kept : goal.operators::or_on-returns-in-Is-clause-kept
 operators::or_on-returns-in-Is-clause-kept t c =
-    kept_then (trees_of c.args.here.now.site.now.codes.now.items) c.args.here.now.site.now.widget c.args.store.now c.eval_on.new.store c.or_right.new.store c.in_ok-how.ensures.kept c.or_right.ensures.kept
+    kept_then (trees_of c.args.here.now.site.now.codes.now.items) c.args.here.now.site.now.widget c.args.store.now c.operand_on.new.store c.or_right.new.store c.in_ok-how.ensures.kept c.or_right.ensures.kept
 
 pub operators::or_on-returns-in_default-clause-comes : goal.operators::or_on-returns-in_default-clause-comes
 operators::or_on-returns-in_default-clause-comes t c =
     let fs = trees_of c.args.here.now.site.now.codes.now.items in
     let w = c.args.here.now.site.now.widget in
     let old = c.args.store.now in
-    let mid = c.eval_on.new.store in
+    let mid = c.operand_on.new.store in
     let p : State → Plan = λ s. Do (job_of fs w old.cells (job.Eval c.args.parts.0 c.args.here.now.at)) s Ret in
     let had = c.args.run.now in
-    let has = c.eval_on.new.run in
+    let has = c.operand_on.new.run in
     let how = c.in_ok-how.how in
-    let out = c.eval_on.new.out in
+    let out = c.operand_on.new.out in
     let part = c.in_ok-how.ensures.comes in
     let kept = c.in_ok-how.ensures.kept in
     hand_form fs w c.hand_or.result old mid 0 30 p (form.Or c.args.parts.1 c.args.here.now.at) had has c.hand_or.new.run how out part c.in_default.not-Is kept c.requires.held.1 (omega arith) c.hand_or.ensures
@@ -4820,12 +4927,12 @@ operators::choose_on-chosen_on-requires t c = (
         let fs = trees_of c.args.here.now.site.now.codes.now.items in
         let w = c.args.here.now.site.now.widget in
         let old = c.args.store.now in
-        let mid = c.eval_on.new.store in
+        let mid = c.condition_on.new.store in
         let p : State → Plan = λ s. Do (job_of fs w old.cells (job.Eval c.args.parts.0 c.args.here.now.at)) s Ret in
         let had = c.args.run.now in
-        let has = c.eval_on.new.run in
+        let has = c.condition_on.new.run in
         let how = c.in_ok-how.how in
-        let out = c.eval_on.new.out in
+        let out = c.condition_on.new.out in
         let part = c.in_ok-how.ensures.comes in
         let kept = c.in_ok-how.ensures.kept in
         value_ready fs w old mid 0 p had has how (ended_as how out) part c.in-Is.is kept c.requires.ready
@@ -4835,12 +4942,12 @@ operators::choose_on-chosen_on-requires t c = (
           let fs = trees_of c.args.here.now.site.now.codes.now.items in
           let w = c.args.here.now.site.now.widget in
           let old = c.args.store.now in
-          let mid = c.eval_on.new.store in
+          let mid = c.condition_on.new.store in
           let p : State → Plan = λ s. Do (job_of fs w old.cells (job.Eval c.args.parts.0 c.args.here.now.at)) s Ret in
           let had = c.args.run.now in
-          let has = c.eval_on.new.run in
+          let has = c.condition_on.new.run in
           let how = c.in_ok-how.how in
-          let out = c.eval_on.new.out in
+          let out = c.condition_on.new.out in
           let part = c.in_ok-how.ensures.comes in
           let kept = c.in_ok-how.ensures.kept in
           ((place_fine fs w old.cells mid.cells kept.grows c.args.here.now.at c.requires.held.1.0, c.requires.held.1.1), (place_fine fs w old.cells mid.cells kept.grows c.args.here.now.at c.requires.held.2.0, c.requires.held.2.1), value_fine fs w old mid 0 p had has how out part c.in-Is.is)
@@ -4855,12 +4962,12 @@ operators::choose_on-returns-in-Is-clause-comes t c =
     let fs = trees_of c.args.here.now.site.now.codes.now.items in
     let w = c.args.here.now.site.now.widget in
     let old = c.args.store.now in
-    let mid = c.eval_on.new.store in
+    let mid = c.condition_on.new.store in
     let p : State → Plan = λ s. Do (job_of fs w old.cells (job.Eval c.args.parts.0 c.args.here.now.at)) s Ret in
     let had = c.args.run.now in
-    let has = c.eval_on.new.run in
+    let has = c.condition_on.new.run in
     let how = c.in_ok-how.how in
-    let out = c.eval_on.new.out in
+    let out = c.condition_on.new.out in
     let part = c.in_ok-how.ensures.comes in
     let kept = c.in_ok-how.ensures.kept in
     (IfOk-weaker c.chosen_on.result _ _
@@ -4869,19 +4976,19 @@ operators::choose_on-returns-in-Is-clause-comes t c =
 
 pub operators::choose_on-returns-in-Is-clause-kept : goal.operators::choose_on-returns-in-Is-clause-kept
 operators::choose_on-returns-in-Is-clause-kept t c =
-    kept_then (trees_of c.args.here.now.site.now.codes.now.items) c.args.here.now.site.now.widget c.args.store.now c.eval_on.new.store c.chosen_on.new.store c.in_ok-how.ensures.kept c.chosen_on.ensures.kept
+    kept_then (trees_of c.args.here.now.site.now.codes.now.items) c.args.here.now.site.now.widget c.args.store.now c.condition_on.new.store c.chosen_on.new.store c.in_ok-how.ensures.kept c.chosen_on.ensures.kept
 
 pub operators::choose_on-returns-in_default-clause-comes : goal.operators::choose_on-returns-in_default-clause-comes
 operators::choose_on-returns-in_default-clause-comes t c =
     let fs = trees_of c.args.here.now.site.now.codes.now.items in
     let w = c.args.here.now.site.now.widget in
     let old = c.args.store.now in
-    let mid = c.eval_on.new.store in
+    let mid = c.condition_on.new.store in
     let p : State → Plan = λ s. Do (job_of fs w old.cells (job.Eval c.args.parts.0 c.args.here.now.at)) s Ret in
     let had = c.args.run.now in
-    let has = c.eval_on.new.run in
+    let has = c.condition_on.new.run in
     let how = c.in_ok-how.how in
-    let out = c.eval_on.new.out in
+    let out = c.condition_on.new.out in
     let part = c.in_ok-how.ensures.comes in
     let kept = c.in_ok-how.ensures.kept in
     hand_form fs w c.hand_choose.result old mid 0 30 p (form.Choose c.args.parts.1 c.args.parts.2 c.args.here.now.at) had has c.hand_choose.new.run how out part c.in_default.not-Is kept (c.requires.held.1, c.requires.held.2) (omega arith) c.hand_choose.ensures
@@ -5139,12 +5246,12 @@ statements::if_on-branch_on-requires t c = (
         let fs = trees_of c.args.here.now.site.now.codes.now.items in
         let w = c.args.here.now.site.now.widget in
         let old = c.args.store.now in
-        let mid = c.operand_on.new.store in
+        let mid = c.condition_on.new.store in
         let p : State → Plan = λ s. Do (job_of fs w old.cells (job.Eval c.args.e c.args.here.now.at)) s Ret in
         let had = c.args.run.now in
-        let has = c.operand_on.new.run in
+        let has = c.condition_on.new.run in
         let how = c.in_ok-how.how in
-        let out = c.operand_on.new.out in
+        let out = c.condition_on.new.out in
         let part = c.in_ok-how.ensures.comes in
         let kept = c.in_ok-how.ensures.kept in
         let one = as_is fs w old mid 0 p had has how ended.Is out c.in-Is.is part in
@@ -5155,12 +5262,12 @@ statements::if_on-branch_on-requires t c = (
           let fs = trees_of c.args.here.now.site.now.codes.now.items in
           let w = c.args.here.now.site.now.widget in
           let old = c.args.store.now in
-          let mid = c.operand_on.new.store in
+          let mid = c.condition_on.new.store in
           let p : State → Plan = λ s. Do (job_of fs w old.cells (job.Eval c.args.e c.args.here.now.at)) s Ret in
           let had = c.args.run.now in
-          let has = c.operand_on.new.run in
+          let has = c.condition_on.new.run in
           let how = c.in_ok-how.how in
-          let out = c.operand_on.new.out in
+          let out = c.condition_on.new.out in
           let part = c.in_ok-how.ensures.comes in
           let kept = c.in_ok-how.ensures.kept in
           (place_fine fs w old.cells mid.cells kept.grows c.args.here.now.at c.requires.held.0.0, c.requires.held.0.1)
@@ -5175,12 +5282,12 @@ statements::if_on-returns-in-Is-clause-comes t c =
     let fs = trees_of c.args.here.now.site.now.codes.now.items in
     let w = c.args.here.now.site.now.widget in
     let old = c.args.store.now in
-    let mid = c.operand_on.new.store in
+    let mid = c.condition_on.new.store in
     let p : State → Plan = λ s. Do (job_of fs w old.cells (job.Eval c.args.e c.args.here.now.at)) s Ret in
     let had = c.args.run.now in
-    let has = c.operand_on.new.run in
+    let has = c.condition_on.new.run in
     let how = c.in_ok-how.how in
-    let out = c.operand_on.new.out in
+    let out = c.condition_on.new.out in
     let part = c.in_ok-how.ensures.comes in
     let kept = c.in_ok-how.ensures.kept in
     let one = as_is fs w old mid 0 p had has how ended.Is out c.in-Is.is part in
@@ -5193,12 +5300,12 @@ statements::if_on-returns-in-Is-clause-kept t c =
     let fs = trees_of c.args.here.now.site.now.codes.now.items in
     let w = c.args.here.now.site.now.widget in
     let old = c.args.store.now in
-    let mid = c.operand_on.new.store in
+    let mid = c.condition_on.new.store in
     let p : State → Plan = λ s. Do (job_of fs w old.cells (job.Eval c.args.e c.args.here.now.at)) s Ret in
     let had = c.args.run.now in
-    let has = c.operand_on.new.run in
+    let has = c.condition_on.new.run in
     let how = c.in_ok-how.how in
-    let out = c.operand_on.new.out in
+    let out = c.condition_on.new.out in
     let part = c.in_ok-how.ensures.comes in
     let kept = c.in_ok-how.ensures.kept in
     kept_then fs w old mid c.branch_on.new.store kept c.branch_on.ensures.kept
@@ -5208,12 +5315,12 @@ statements::if_on-returns-in_default-clause-comes t c =
     let fs = trees_of c.args.here.now.site.now.codes.now.items in
     let w = c.args.here.now.site.now.widget in
     let old = c.args.store.now in
-    let mid = c.operand_on.new.store in
+    let mid = c.condition_on.new.store in
     let p : State → Plan = λ s. Do (job_of fs w old.cells (job.Eval c.args.e c.args.here.now.at)) s Ret in
     let had = c.args.run.now in
-    let has = c.operand_on.new.run in
+    let has = c.condition_on.new.run in
     let how = c.in_ok-how.how in
-    let out = c.operand_on.new.out in
+    let out = c.condition_on.new.out in
     let part = c.in_ok-how.ensures.comes in
     let kept = c.in_ok-how.ensures.kept in
     let i = stmt_at (forest_at fs c.args.here.now.at.code) c.args.id in

@@ -25,10 +25,10 @@ use Rattle.widget_meaning.specs.Statements.{choose_case, declarations, expressio
 
 -- by depth, and at one depth along the calls
 abbrev pub decreases-arrays::array_on : goal.decreases-arrays::array_on
-decreases-arrays::array_on l = 16 * l.deep + 3
+decreases-arrays::array_on l = 16 * l.deep + 4
 
 abbrev pub decreases-arrays::elements_on : goal.decreases-arrays::elements_on
-decreases-arrays::elements_on l = 16 * l.deep + 2
+decreases-arrays::elements_on l = 16 * l.deep + 3
 
 -- the elements before the next one are in the array
 abbrev pub invariant-arrays::elements_on-elements : goal.invariant-arrays::elements_on-elements
@@ -47,16 +47,16 @@ abbrev pub decreases-arrays::elements_on-elements : goal.decreases-arrays::eleme
 decreases-arrays::elements_on-elements l = length (drop l.n (elements_of (expr_at (forest_at (trees_of l.here.site.now.codes.now.items) l.here.at.code) l.id)))
 
 abbrev pub decreases-arrays::element_on : goal.decreases-arrays::element_on
-decreases-arrays::element_on l = 16 * l.deep + 1
+decreases-arrays::element_on l = 16 * l.deep + 2
 
 abbrev pub decreases-assigning::assign_on : goal.decreases-assigning::assign_on
-decreases-assigning::assign_on l = 16 * l.deep + 7
+decreases-assigning::assign_on l = 16 * l.deep + 8
 
 abbrev pub decreases-assigning::assign_plain : goal.decreases-assigning::assign_plain
-decreases-assigning::assign_plain l = 16 * l.deep + 6
+decreases-assigning::assign_plain l = 16 * l.deep + 7
 
 abbrev pub decreases-assigning::assign_by : goal.decreases-assigning::assign_by
-decreases-assigning::assign_by l = 16 * l.deep + 6
+decreases-assigning::assign_by l = 16 * l.deep + 7
 
 abbrev pub decreases-assigning::compute_name : goal.decreases-assigning::compute_name
 decreases-assigning::compute_name l = 16 * l.deep + 4
@@ -71,22 +71,22 @@ abbrev pub decreases-assigning::assign_name : goal.decreases-assigning::assign_n
 decreases-assigning::assign_name l = 16 * l.deep + 2
 
 abbrev pub decreases-assigning::assign_any : goal.decreases-assigning::assign_any
-decreases-assigning::assign_any l = 16 * l.deep + 5
+decreases-assigning::assign_any l = 16 * l.deep + 6
 
 abbrev pub decreases-assigning::assign_reached : goal.decreases-assigning::assign_reached
-decreases-assigning::assign_reached l = 16 * l.deep + 4
+decreases-assigning::assign_reached l = 16 * l.deep + 5
 
 abbrev pub decreases-assigning::assign_value : goal.decreases-assigning::assign_value
-decreases-assigning::assign_value l = 16 * l.deep + 3
+decreases-assigning::assign_value l = 16 * l.deep + 4
 
 abbrev pub decreases-assigning::assign_written : goal.decreases-assigning::assign_written
 decreases-assigning::assign_written l = 16 * l.deep + 2
 
 abbrev pub decreases-assigning::assign_computed : goal.decreases-assigning::assign_computed
-decreases-assigning::assign_computed l = 16 * l.deep + 2
+decreases-assigning::assign_computed l = 16 * l.deep + 3
 
 abbrev pub decreases-assigning::assign_with : goal.decreases-assigning::assign_with
-decreases-assigning::assign_with l = 16 * l.deep + 1
+decreases-assigning::assign_with l = 16 * l.deep + 2
 
 abbrev pub decreases-blocks::block_on : goal.decreases-blocks::block_on
 decreases-blocks::block_on l = 16 * l.deep + 2
@@ -221,6 +221,9 @@ decreases-forms::eval_on l = 16 * l.deep + 0
 abbrev pub decreases-forms::operand_on : goal.decreases-forms::operand_on
 decreases-forms::operand_on l = 16 * l.deep + 1
 
+abbrev pub decreases-forms::condition_on : goal.decreases-forms::condition_on
+decreases-forms::condition_on l = 16 * l.deep + 2
+
 abbrev pub decreases-forms::form_on : goal.decreases-forms::form_on
 decreases-forms::form_on l = 16 * l.deep + 13
 
@@ -228,19 +231,19 @@ abbrev pub decreases-forms::unary_form : goal.decreases-forms::unary_form
 decreases-forms::unary_form l = 16 * l.deep + 3
 
 abbrev pub decreases-looping::again_on : goal.decreases-looping::again_on
-decreases-looping::again_on l = 16 * l.deep + 7
+decreases-looping::again_on l = 16 * l.deep + 8
 
 abbrev pub decreases-looping::test_on : goal.decreases-looping::test_on
-decreases-looping::test_on l = 16 * l.deep + 3
+decreases-looping::test_on l = 16 * l.deep + 4
 
 abbrev pub decreases-looping::tested_on : goal.decreases-looping::tested_on
-decreases-looping::tested_on l = 16 * l.deep + 2
+decreases-looping::tested_on l = 16 * l.deep + 3
 
 abbrev pub decreases-looping::passes_on : goal.decreases-looping::passes_on
-decreases-looping::passes_on l = 16 * l.deep + 7
+decreases-looping::passes_on l = 16 * l.deep + 8
 
 abbrev pub decreases-looping::passes_by : goal.decreases-looping::passes_by
-decreases-looping::passes_by l = 16 * l.deep + 6
+decreases-looping::passes_by l = 16 * l.deep + 7
 
 -- another pass is still to be done
 abbrev pub invariant-looping::passes_by-passes : goal.invariant-looping::passes_by-passes
@@ -254,16 +257,16 @@ abbrev pub decreases-looping::passes_by-passes : goal.decreases-looping::passes_
 decreases-looping::passes_by-passes l = l.run.units
 
 abbrev pub decreases-looping::pass_on : goal.decreases-looping::pass_on
-decreases-looping::pass_on l = 16 * l.deep + 5
+decreases-looping::pass_on l = 16 * l.deep + 6
 
 abbrev pub decreases-looping::looped_on : goal.decreases-looping::looped_on
 decreases-looping::looped_on l = 16 * l.deep + 3
 
 abbrev pub decreases-looping::next_on : goal.decreases-looping::next_on
-decreases-looping::next_on l = 16 * l.deep + 4
+decreases-looping::next_on l = 16 * l.deep + 5
 
 abbrev pub decreases-looping::expressions_on : goal.decreases-looping::expressions_on
-decreases-looping::expressions_on l = 16 * l.deep + 1
+decreases-looping::expressions_on l = 16 * l.deep + 2
 
 -- the expressions from one on are still to be done
 abbrev pub invariant-looping::expressions_on-list : goal.invariant-looping::expressions_on-list
@@ -305,10 +308,10 @@ abbrev pub decreases-names::names_on-passes : goal.decreases-names::names_on-pas
 decreases-names::names_on-passes l = l.run.units
 
 abbrev pub decreases-objects::object_on : goal.decreases-objects::object_on
-decreases-objects::object_on l = 16 * l.deep + 3
+decreases-objects::object_on l = 16 * l.deep + 4
 
 abbrev pub decreases-objects::properties_on : goal.decreases-objects::properties_on
-decreases-objects::properties_on l = 16 * l.deep + 2
+decreases-objects::properties_on l = 16 * l.deep + 3
 
 -- the properties before the next one are in the object
 abbrev pub invariant-objects::properties_on-properties : goal.invariant-objects::properties_on-properties
@@ -327,7 +330,7 @@ abbrev pub decreases-objects::properties_on-properties : goal.decreases-objects:
 decreases-objects::properties_on-properties l = length (drop l.n (properties_of (expr_at (forest_at (trees_of l.here.site.now.codes.now.items) l.here.at.code) l.id)))
 
 abbrev pub decreases-objects::property_part_on : goal.decreases-objects::property_part_on
-decreases-objects::property_part_on l = 16 * l.deep + 1
+decreases-objects::property_part_on l = 16 * l.deep + 2
 
 abbrev pub decreases-operators::binary_on : goal.decreases-operators::binary_on
 decreases-operators::binary_on l = 16 * l.deep + 4
@@ -339,22 +342,22 @@ abbrev pub decreases-operators::right_on : goal.decreases-operators::right_on
 decreases-operators::right_on l = 16 * l.deep + 2
 
 abbrev pub decreases-operators::and_on : goal.decreases-operators::and_on
-decreases-operators::and_on l = 16 * l.deep + 2
+decreases-operators::and_on l = 16 * l.deep + 3
 
 abbrev pub decreases-operators::and_right : goal.decreases-operators::and_right
-decreases-operators::and_right l = 16 * l.deep + 1
+decreases-operators::and_right l = 16 * l.deep + 2
 
 abbrev pub decreases-operators::or_on : goal.decreases-operators::or_on
-decreases-operators::or_on l = 16 * l.deep + 2
+decreases-operators::or_on l = 16 * l.deep + 3
 
 abbrev pub decreases-operators::or_right : goal.decreases-operators::or_right
-decreases-operators::or_right l = 16 * l.deep + 1
+decreases-operators::or_right l = 16 * l.deep + 2
 
 abbrev pub decreases-operators::choose_on : goal.decreases-operators::choose_on
-decreases-operators::choose_on l = 16 * l.deep + 2
+decreases-operators::choose_on l = 16 * l.deep + 3
 
 abbrev pub decreases-operators::chosen_on : goal.decreases-operators::chosen_on
-decreases-operators::chosen_on l = 16 * l.deep + 1
+decreases-operators::chosen_on l = 16 * l.deep + 2
 
 abbrev pub decreases-operators::unary_on : goal.decreases-operators::unary_on
 decreases-operators::unary_on l = 16 * l.deep + 2
@@ -375,10 +378,10 @@ abbrev pub decreases-statements::exec_on : goal.decreases-statements::exec_on
 decreases-statements::exec_on l = 16 * l.deep + 0
 
 abbrev pub decreases-statements::begun_on : goal.decreases-statements::begun_on
-decreases-statements::begun_on l = 16 * l.deep + 10
+decreases-statements::begun_on l = 16 * l.deep + 11
 
 abbrev pub decreases-statements::statement_on : goal.decreases-statements::statement_on
-decreases-statements::statement_on l = 16 * l.deep + 9
+decreases-statements::statement_on l = 16 * l.deep + 10
 
 abbrev pub decreases-statements::ending_on : goal.decreases-statements::ending_on
 decreases-statements::ending_on l = 16 * l.deep + 2
@@ -390,10 +393,10 @@ abbrev pub decreases-statements::branch_on : goal.decreases-statements::branch_o
 decreases-statements::branch_on l = 16 * l.deep + 3
 
 abbrev pub decreases-statements::declared_on : goal.decreases-statements::declared_on
-decreases-statements::declared_on l = 16 * l.deep + 8
+decreases-statements::declared_on l = 16 * l.deep + 9
 
 abbrev pub decreases-statements::listed_on : goal.decreases-statements::listed_on
-decreases-statements::listed_on l = 16 * l.deep + 8
+decreases-statements::listed_on l = 16 * l.deep + 9
 
 abbrev pub decreases-statements::declarations_on : goal.decreases-statements::declarations_on
 decreases-statements::declarations_on l = 16 * l.deep + 1
