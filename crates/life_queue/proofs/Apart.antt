@@ -28,7 +28,7 @@ use Rattle.native_image.specs.Image.{Outside, beside, dispatches_of, image}
 use Rattle.native_image.specs.Sound.{HasRaw, HoldsOwn, KeepsPage}
 use Rattle.native_image.proofs.Joint.{holds_grows, rest, store_lift}
 use Rattle.life_laws.specs.Life.{potentials}
-use Rattle.turn_dispatch.specs.Levels.{turn_plan}
+use Rattle.turn_returns.specs.Levels.{turn_plan}
 use Rattle.turn_returns.proofs.Stays.{levels_fine}
 use Rattle.turn_returns.specs.Turns.{bubbled_of, outside_of, turn_image}
 use Rattle.life_queue.specs.declared.life.Life.{Life}

@@ -12,8 +12,8 @@ use Rattle.event_loop.specs.declared.around.Loop.{Loop}
 use Rattle.native_image.specs.Image.{Outside, beside, image}
 use Rattle.native_image.specs.Sound.{IsSound}
 use Rattle.native_image.proofs.Joint.{image_shows}
-use Rattle.turn_dispatch.specs.declared.level.Heard.{Heard}
-use Rattle.turn_dispatch.specs.Levels.{heard_plan}
+use Rattle.turn_returns.specs.level.Heard.{Heard}
+use Rattle.turn_returns.specs.Levels.{heard_plan}
 use Rattle.life_queue.specs.declared.life.Life.{Life}
 use Rattle.native_image.specs.declared.handed.Shared.{Shared}
 use Rattle.life_queue.specs.Lives.{own_of, trees_in}

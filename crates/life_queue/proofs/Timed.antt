@@ -27,11 +27,11 @@ use Rattle.native_image.specs.Image.{beside}
 use Rattle.native_image.specs.Sound.{HoldsOwn, IsOwnCell, IsSound}
 use Rattle.native_image.proofs.Joint.{image_shows, rest, shown_is}
 use Rattle.native_image.proofs.Keeping.{host_here, page_same}
-use Rattle.turn_dispatch.specs.Answered.{remaining}
-use Rattle.turn_dispatch.specs.Task.{Task}
 use Rattle.life_laws.specs.Life as todo
 use Rattle.life_laws.specs.Life.{Same, potentials, started, waiting}
 use Rattle.life_laws.proofs.Begins.{until_begins, until_none, until_stopped}
+use Rattle.turn_returns.specs.Answered.{remaining}
+use Rattle.turn_returns.specs.Task.{Task}
 use Rattle.turn_returns.proofs.Stays.{own_seen}
 use Rattle.life_queue.specs.declared.life.Life.{Life}
 use Rattle.life_queue.specs.declared.life.Work.TheVariants as work

@@ -16,8 +16,8 @@ ghost use Rattle.native_image.specs.Image.{Outside};
 ghost use Rattle.native_image.specs.Sound.{IsOwnCell};
 ghost use Rattle.js_image.specs.Held.{IsFine};
 ghost use Rattle.js_image.specs.Image.{seen};
-ghost use Rattle.turn_dispatch.specs.Held.{FineDoing, FineHeard};
-ghost use Rattle.turn_dispatch.specs.Levels.{heard_plan, turn_plan};
+ghost use Rattle.turn_returns.specs.Held.{FineDoing, FineHeard};
+ghost use Rattle.turn_returns.specs.Levels.{heard_plan, turn_plan};
 ghost use Rattle.turn_returns.specs.Turns.{turn_image};
 ghost use Rattle.turn_returns.specs.Waiting.{FineLevels};
 ghost use Rattle.life_queue.specs.Lives.{is_input_label};
@@ -37,8 +37,7 @@ use object_store::{CellId, Value};
 use page_image::{set_attr, tag};
 use page_tree::{NodeId, Page};
 use std::alloc::Global;
-use turn_dispatch::{Dispatch, Doing, Heard, hear, listeners};
-use turn_returns::Calls;
+use turn_returns::{Calls, Dispatch, Doing, Heard, hear, listeners};
 
 // Whether a node is an `input`.
 fn is_input(page: &Page, w: u32, node: NodeId) -> bool

@@ -6,8 +6,7 @@ use js_tree::FunId;
 use native_image::Widget;
 use object_store::CellId;
 use std::collections::VecDeque;
-use turn_dispatch::Stop;
-use turn_returns::Turn;
+use turn_returns::{Stop, Turn};
 
 /// What is recorded of a life. In a turn `spent` is what was spent when it began.
 #[derive(Drop)]

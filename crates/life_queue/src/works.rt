@@ -4,13 +4,13 @@ ghost use Rattle.js_tree.specs.Forest.{Forest};
 ghost use Rattle.store_cells.specs.Cells.{Cells};
 ghost use Rattle.widget_meaning.specs.Plan as plan;
 ghost use Rattle.widget_meaning.specs.Plan.{Do, Ret};
+ghost use Rattle.turn_returns.specs.Answered.{remaining};
+ghost use Rattle.turn_returns.specs.Held.{FineTask};
 ghost use Rattle.life_laws.specs.Life.{potential};
 ghost use Rattle.page_tree.specs.declared.page.Page.{Page as PageOf};
 ghost use Rattle.js_image.specs.Held.{IsHeld};
 ghost use Rattle.js_image.specs.Image.{Rest, image, seen};
 ghost use Rattle.js_image.specs.Laws.{AreLawful};
-ghost use Rattle.turn_dispatch.specs.Answered.{remaining};
-ghost use Rattle.turn_dispatch.specs.Held.{FineTask};
 ghost use Rattle.life_queue.specs.Lives.{trees_in, work_of};
 ghost use Rattle.life_queue.specs.Fine.{FineLife, FineWork, KeepsLife, tally};
 ghost use Rattle.life_queue.specs.Taken.{Takes};
@@ -23,8 +23,7 @@ use native_common::WidgetId;
 use native_image::Shared;
 use object_store::{CellId, HostEntry, Store, Value};
 use std::alloc::Global;
-use turn_dispatch::{Doing, Level, Task, open_script};
-use turn_returns::Calls;
+use turn_returns::{Calls, Doing, Level, Task, open_script};
 
 // The laws of the store, together.
 fn lawful(store: &Store)
@@ -115,7 +114,7 @@ fn call(alloc: Global, w: u32, func: CellId) -> Result<Box<Task>, Memory>
     ensures fine { IfOk result (λ t. (fs : List Forest) (s : Cells) (p : PageOf) → IsHeld w s.cells func
         → FineTask fs w s p t.value) }
 {
-    let task = turn_dispatch::begin(alloc, w, func, &[], 0)?;
+    let task = turn_returns::begin(alloc, w, func, &[], 0)?;
     Ok(Box::new(alloc, task)?)
 }
 

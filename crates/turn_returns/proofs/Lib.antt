@@ -1,3 +1,4 @@
+pub use Rattle.turn_dispatch.proofs.Ending
 pub mod Stays
 pub mod Taken
 mod Arms

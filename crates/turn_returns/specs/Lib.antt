@@ -1,3 +1,10 @@
+pub use Rattle.turn_dispatch.specs.declared.level
+pub use Rattle.turn_dispatch.specs.Answered
+pub use Rattle.turn_dispatch.specs.Ending
+pub use Rattle.turn_dispatch.specs.Held
+pub use Rattle.turn_dispatch.specs.Levels
+pub use Rattle.turn_dispatch.specs.Stop
+pub use Rattle.turn_dispatch.specs.Task
 pub mod Took
 pub mod Turns
 pub mod Weights

@@ -11,3 +11,6 @@ pub use calls::Calls;
 pub use giving::give;
 pub use taking::call_handler;
 pub use turn::Turn;
+pub use turn_dispatch::{
+    Dispatch, Doing, Heard, Level, Stop, Task, begin, hear, listeners, open_script,
+};

@@ -1,7 +1,7 @@
 use Rattle.std.proofs.Common.{[], ◌∷◌, ◌++◌, refl, sym, ◌∙◌, subst, arith}
 use Rattle.widget_meaning.specs.Alone.{library_plan}
+use Rattle.turn_returns.specs.level.Level.TheVariants as level
 use Rattle.life_laws.proofs.Begins.{library_begins, library_passes}
-use Rattle.turn_dispatch.specs.declared.level.Level.TheVariants as level
 use Rattle.life_queue.specs.declared.life.Life.{Life}
 use Rattle.life_queue.specs.declared.life.Work.TheVariants as work
 use Rattle.life_queue.specs.Lives.{function_of, own_of, text_with, trees_in, works_of}
