@@ -1,5 +1,5 @@
 //! A line is answered.
-ghost use Rattle.std.specs.Prelude.{◌≡◌, ◌≤◌, ◌<◌, ◌++◌, ℕ, List, OnOk, length, string_bytes};
+ghost use Rattle.std.specs.Prelude.{◌≡◌, ◌<◌, ◌++◌, ℕ, List, OnOk, length, string_bytes};
 ghost use Rattle.trace_reader.specs.Said.{a_swap, said};
 ghost use Rattle.run_steps.specs.Items.{IsFor};
 ghost use Rattle.live_text.specs.Answer.{refused_text};
