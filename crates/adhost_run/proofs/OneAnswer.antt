@@ -19,7 +19,7 @@ use Rattle.page_check.specs.Runs.{SlotRun, slots_named}
 use Rattle.reach_cert.specs.Certs.{Slot, cert_text}
 use Rattle.reach_cert.specs.Shape.{IsCert}
 use Rattle.reach_cert.specs.Walks.{first_leak}
-use Rattle.state_reach.specs.States.{cert_of_states}
+use Rattle.page_play.specs.States.{cert_of_states}
 use Rattle.slot_lives.specs.Ends.{run_name}
 use Rattle.slot_lives.specs.Outcome.{IsReport, last_lives}
 use Rattle.slot_lives.proofs.OneOutcome.{come_once, outcome_once, report_once}

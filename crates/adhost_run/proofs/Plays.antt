@@ -13,7 +13,7 @@ use Rattle.slot_check.specs.declared.sources.SourceFile.{SourceFile}
 use Rattle.slot_check.specs.Sources.{Source}
 use Rattle.slot_check.specs.Verdicts.{source_of, sources_of}
 use Rattle.adsafe_rules.specs.declared.accepted.Accepted.{Accepted}
-use Rattle.round_laws.specs.Fed.{Fed}
+use Rattle.life_laws.specs.Fed.{Fed}
 use Rattle.widget_meaning.specs.Alone.{Content}
 use Rattle.page_plan.specs.declared.PageSpec.{PageSpec}
 use Rattle.page_plan.specs.declared.SlotContent.{SlotContent}
@@ -37,7 +37,7 @@ use Rattle.page_play.specs.Played as play
 use Rattle.page_play.specs.Played.{IsPlayed, AreScriptsOf, HasScriptsOf, begun_in, ended_in, name_of}
 use Rattle.page_play.specs.Settled.{IsSettled}
 use Rattle.page_play.specs.Told.{AreBegun, IsAudit, IsFound}
-use Rattle.slot_laws.specs.Chains.{last_at}
+use Rattle.life_laws.specs.Chains.{last_at}
 use Rattle.run_steps.specs.declared.ending.Status.TheVariants as status
 use Rattle.run_steps.specs.declared.reading.NoReport.{NoReport}
 use Rattle.run_steps.specs.declared.reading.NoReport.TheVariants as stop

@@ -23,12 +23,12 @@ use Rattle.slot_check.specs.Slot.{SlotFirst, IsCleanSlot}
 use Rattle.widget_meaning.specs.OwnState.{OwnState}
 use Rattle.post_rounds.specs.declared.posts.Post.{Post}
 use Rattle.post_rounds.specs.News.{news}
-use Rattle.round_laws.specs.Fed.{Fed, RoundsTo, again, ended, fed_on, fresh, round, round_from, state}
+use Rattle.life_laws.specs.Fed.{Fed, RoundsTo, again, ended, fed_on, fresh, round, round_from, state}
 use Rattle.page_plan.specs.Pages.{page_of, roots}
 use Rattle.page_check.specs.Runs.{SlotRun, pieces}
 use Rattle.page_check.specs.Widgets.{HasWidget, widget}
 use Rattle.reach_cert.specs.Certs.{cert_text}
-use Rattle.state_reach.specs.States.{cert_of_states}
+use Rattle.page_play.specs.States.{cert_of_states}
 use Rattle.life_split.specs.declared.items.Life.{Life as Stretch}
 use Rattle.life_split.specs.Cut.{lives_of}
 use Rattle.slot_lives.specs.Lives.{Life, cut_item, runs_from, life_at, last_of, last_life, swaps_in, ended_lives}

@@ -8,8 +8,8 @@ use Rattle.trace_reader.specs.Said.{Said, said}
 use Rattle.trace_reader.specs.declared.item.TraceItem.{TraceItem}
 use Rattle.slot_check.specs.declared.fault.Refusal.{Refusal}
 use Rattle.slot_check.specs.Sources.{Source}
-use Rattle.slot_laws.specs.Slots.{has}
-use Rattle.slot_laws.specs.Chains.{last_at, listed}
+use Rattle.life_laws.specs.Slots.{has}
+use Rattle.life_laws.specs.Chains.{last_at, listed}
 use Rattle.widget_meaning.specs.OwnState.{OwnState}
 use Rattle.widget_meaning.specs.Alone.{Content}
 use Rattle.page_plan.specs.declared.PageSpec.{PageSpec}

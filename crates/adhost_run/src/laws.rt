@@ -9,7 +9,7 @@ ghost use Rattle.adhost_run.specs.Demo.{DemoAnswer};
 ghost use Rattle.adhost_run.specs.Answer.{Answer, RequestAnswer};
 ghost use Rattle.adhost_run.specs.Ends.{is_answer};
 
-use round_laws::rounds;
+use life_laws::rounds;
 use script_check::one_verdict;
 use slot_check::one_slot;
 use style_text::form_of_style;

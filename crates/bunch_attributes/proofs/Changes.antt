@@ -18,9 +18,9 @@ use Rattle.event_loop.specs.declared.around.Loop.{Loop}
 use Rattle.event_loop.specs.Around as around
 use Rattle.event_loop.specs.Around.{ChangedAt, SameKept, SameTimes}
 use Rattle.event_loop.specs.Kept.{PlainKept}
-use Rattle.event_image.specs.Image.{Shows, kept_of}
-use Rattle.event_image.proofs.Events.{with_handler_of}
-use Rattle.event_image.proofs.States.{changed_shows, hushed_of}
+use Rattle.page_image.specs.Around.{Shows, kept_of}
+use Rattle.page_image.proofs.Events.{with_handler_of}
+use Rattle.page_image.proofs.States.{changed_shows, hushed_of}
 use Rattle.native_image.specs.Image.{Outside, beside, image}
 use Rattle.native_image.specs.Sound.{HoldsOwn, IsOwnCell, IsSound}
 use Rattle.native_image.proofs.Lists.{mapped_one}

@@ -17,8 +17,8 @@ use Rattle.event_loop.specs.declared.around.Loop.{Loop}
 use Rattle.event_loop.specs.Around as around
 use Rattle.event_loop.specs.Around.{SameKept}
 use Rattle.event_loop.specs.Kept.{PlainKept}
-use Rattle.event_image.specs.Image.{Shows}
-use Rattle.event_image.proofs.States.{focus_shows}
+use Rattle.page_image.specs.Around.{Shows}
+use Rattle.page_image.proofs.States.{focus_shows}
 use Rattle.native_image.specs.Image.{Outside, beside, image}
 use Rattle.native_image.specs.Sound.{HoldsOwn, IsOwnCell}
 use Rattle.native_image.proofs.Lists.{has_own}

@@ -17,7 +17,7 @@ use Rattle.widget_meaning.specs.OwnState.{State}
 use Rattle.widget_meaning.specs.Plan.{Plan, charge}
 use Rattle.widget_meaning.specs.Properties.{is_own_function}
 use Rattle.widget_meaning.specs.Values.{E4, Value, is_object, to_text}
-use Rattle.event_image.specs.Image.{hushed, marked}
+use Rattle.page_image.specs.Around.{hushed, marked}
 use Rattle.js_image.specs.Image.{meant, seen}
 use Rattle.native_image.proofs.Wants.{object_of, primitive_of, unwanted, wanted}
 use Rattle.bunch_attributes.specs.Values.{is_undefined}

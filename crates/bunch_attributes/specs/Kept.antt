@@ -10,7 +10,7 @@ use Rattle.widget_meaning.specs.Plan.{Plan, charge}
 use Rattle.widget_meaning.specs.Values.{Own, Value}
 use Rattle.event_loop.specs.Kept as loop
 use Rattle.event_loop.specs.Kept.{PlainKept}
-use Rattle.event_image.specs.Image.{hushed, marked, protected}
+use Rattle.page_image.specs.Around.{hushed, marked, protected}
 use Rattle.native_image.specs.Charges.{Price, pay_for}
 use Rattle.native_image.specs.Sound.{IsOwnCell}
 use Rattle.bunch_attributes.specs.declared.keeping.Change.{Change}

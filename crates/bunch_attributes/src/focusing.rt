@@ -5,7 +5,7 @@ ghost use Rattle.store_cells.specs.Cells.{Cells};
 ghost use Rattle.widget_meaning.specs.BunchWrites as means;
 ghost use Rattle.permitted_table.specs.declared.native.WriteNative.TheVariants as names;
 ghost use Rattle.widget_meaning.specs.OwnState.{State};
-ghost use Rattle.event_image.specs.Image.{Shows};
+ghost use Rattle.page_image.specs.Around.{Shows};
 ghost use Rattle.page_image.specs.Image.{number, owns};
 ghost use Rattle.native_image.specs.Handed.{IsBunchOf, IsSoundIn, Runs};
 ghost use Rattle.native_image.specs.Sound.{HoldsOwn};

@@ -6,7 +6,7 @@ ghost use Rattle.store_cells.specs.Cells.{Cells, own_count};
 ghost use Rattle.widget_meaning.specs.BunchWrites.{change_kept};
 ghost use Rattle.widget_meaning.specs.OwnState.{State};
 ghost use Rattle.event_loop.specs.Around.{ChangedAt, SameKept, SameTimes};
-ghost use Rattle.event_image.specs.Image.{Shows};
+ghost use Rattle.page_image.specs.Around.{Shows};
 ghost use Rattle.page_image.specs.Image.{number, owns};
 ghost use Rattle.native_image.specs.Handed.{IsBunchOf, IsSoundIn, Writes, numbers, sees};
 ghost use Rattle.native_image.specs.Charges.{IsPrice, Price};

@@ -32,7 +32,7 @@ use Rattle.widget_meaning.specs.PageForms.{next_node}
 use Rattle.widget_meaning.proofs.TextsHold.{query_laws}
 use Rattle.event_loop.specs.declared.around.Loop.{Loop}
 use Rattle.event_loop.specs.Around as around
-use Rattle.event_image.specs.Image.{Shows, kept_of}
+use Rattle.page_image.specs.Around.{Shows, kept_of}
 use Rattle.native_image.specs.Image.{Outside, beside, image}
 use Rattle.native_image.specs.Sound.{IsSound}
 use Rattle.native_image.proofs.Joint.{image_shows}

@@ -6,20 +6,19 @@ ghost use Rattle.widget_meaning.specs.PageForms as forms;
 ghost use Rattle.widget_meaning.specs.OwnState.{State};
 ghost use Rattle.widget_meaning.specs.Plan.{charge};
 ghost use Rattle.widget_meaning.specs.Values.{Num, Truth};
-ghost use Rattle.event_image.specs.Image.{Shows};
+ghost use Rattle.page_image.specs.Around.{Shows};
 ghost use Rattle.page_image.specs.Image.{forest, number, owns};
 ghost use Rattle.native_image.specs.Handed.{AreIts, IsSoundIn, Reads, numbers};
 ghost use Rattle.native_image.specs.Sound.{AreNodes};
 
 use crate::attributes::{first_found, text_or_empty};
 use code_units::{Memory, Text};
-use event_image::mark;
 use event_loop::Loop;
 use js_image::word;
 use js_values::{Meter, NativeOut};
 use native_image::{Shared, Widget, give_plain};
 use object_store::{Number, Value};
-use page_image::tag;
+use page_image::{mark, tag};
 use page_tree::{NodeId, Page};
 use std::alloc::Global;
 

@@ -2,7 +2,7 @@
 ghost use Rattle.std.specs.Prelude.{◌≡◌, ℕ, IfOk, map};
 ghost use Rattle.widget_meaning.specs.BunchReads as means;
 ghost use Rattle.widget_meaning.specs.OwnState.{State};
-ghost use Rattle.event_image.specs.Image.{Shows};
+ghost use Rattle.page_image.specs.Around.{Shows};
 ghost use Rattle.page_image.specs.Image.{number};
 ghost use Rattle.native_image.specs.Handed.{AreIts, IsSoundIn, Reads, numbers};
 ghost use Rattle.native_image.specs.Sound.{AreNodes};

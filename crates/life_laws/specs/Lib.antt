@@ -1,2 +1,13 @@
+pub mod Fed
+pub mod RoundLaws
 pub mod Life
 pub mod LifeLaws
+pub mod Picks
+pub mod Journal
+pub mod Asked
+pub mod Order
+pub mod PickLaws
+pub mod Slots
+pub mod Chains
+pub mod Settled
+pub mod SlotLaws

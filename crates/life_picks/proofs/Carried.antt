@@ -18,9 +18,9 @@ use Rattle.js_names.specs.Code.{trees_of}
 use Rattle.life_laws.specs.Life.{Given, Go, Going, IsCut, IsOver, Library, Same, Seen, Turn as TurnOf, Until, Work, fixed, is_empty, potential, potentials, ready, turn_bound, turn_weight, weight}
 use Rattle.life_laws.proofs.Begins.{same_none}
 use Rattle.life_laws.proofs.Ends.{cut, cut_from, idle, over, over_from}
-use Rattle.pick_laws.specs.declared.entry.Picked.{Picked}
-use Rattle.pick_laws.specs.declared.entry.Picked.TheVariants as picked
-use Rattle.pick_laws.specs.Picks.{Picks}
+use Rattle.life_laws.specs.declared.entry.Picked.{Picked}
+use Rattle.life_laws.specs.declared.entry.Picked.TheVariants as picked
+use Rattle.life_laws.specs.Picks.{Picks}
 use Rattle.native_image.specs.declared.handed.Shared.{Shared}
 use Rattle.native_image.specs.declared.handed.Widget.{Widget}
 use Rattle.turn_steps.specs.declared.turn.TurnEnd.{TurnEnd}

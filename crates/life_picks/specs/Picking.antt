@@ -2,8 +2,8 @@
 use Rattle.std.specs.Prelude.{◌≡◌, ℕ, ◌+◌, ◌-◌, ◌<◌, ◌≤◌, ◌++◌, List, Option, None, Some, codes, true}
 use Rattle.widget_meaning.specs.Values.{Text, Value}
 use Rattle.life_laws.specs.Life.{ready, weight}
-use Rattle.pick_laws.specs.declared.entry.Picked.{Picked}
-use Rattle.pick_laws.specs.Picks.{Picks}
+use Rattle.life_laws.specs.declared.entry.Picked.{Picked}
+use Rattle.life_laws.specs.Picks.{Picks}
 use Rattle.native_image.specs.declared.handed.Shared.{Shared}
 use Rattle.life_queue.specs.declared.life.Life.{Life}
 use Rattle.life_queue.specs.Lives.{life_seen}

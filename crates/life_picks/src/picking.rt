@@ -10,9 +10,9 @@ ghost use Rattle.life_picks.specs.Picking.{PicksLife, spent_to};
 use crate::notes::note;
 use code_units::Memory;
 use js_flow::Completion;
+use life_laws::Picked;
 use life_queue::{Life, Turn, begin_turn};
 use native_image::Shared;
-use pick_laws::Picked;
 use std::alloc::Global;
 use turn_steps::{Ran, TurnEnd, run_turn};
 

@@ -19,7 +19,7 @@ use Rattle.page_image.proofs.Looks.{root_owned}
 use Rattle.page_tree.specs.declared.page.Page.{Page}
 use Rattle.event_loop.specs.Around as around
 use Rattle.event_loop.specs.declared.around.Loop.{Loop}
-use Rattle.event_image.specs.Image.{kept_of}
+use Rattle.page_image.specs.Around.{kept_of}
 use Rattle.js_image.specs.Held.{IsConfined, PassNodes}
 use Rattle.js_image.specs.Image.{meant_cell, meant_counts, state_of}
 use Rattle.js_names.specs.declared.code.Code.{Code}
@@ -28,11 +28,11 @@ use Rattle.native_image.specs.Image.{Outside, beside, dispatches_of, image}
 use Rattle.native_image.specs.Sound.{HasRaw, HoldsOwn, KeepsPage}
 use Rattle.native_image.proofs.Joint.{holds_grows, rest, store_lift}
 use Rattle.life_laws.specs.Life.{potentials}
-use Rattle.turn_returns.specs.Levels.{turn_plan}
-use Rattle.turn_returns.proofs.Stays.{levels_fine}
-use Rattle.turn_returns.specs.Turns.{bubbled_of, outside_of, turn_image}
+use Rattle.turn_dispatch.specs.Levels.{turn_plan}
+use Rattle.turn_dispatch.proofs.Stays.{levels_fine}
+use Rattle.turn_dispatch.specs.Turns.{bubbled_of, outside_of, turn_image}
 use Rattle.life_queue.specs.declared.life.Life.{Life}
-use Rattle.turn_returns.specs.declared.turn.Turn.{Turn}
+use Rattle.turn_dispatch.specs.declared.turn.Turn.{Turn}
 use Rattle.native_image.specs.declared.handed.Shared.{Shared}
 use Rattle.life_queue.specs.Lives.{going_of, life_seen, outside, own_of, trees_in, work_of, works_of}
 use Rattle.life_queue.specs.Fine.{FineLife, FineTurn, FineWork, KeepsCells}

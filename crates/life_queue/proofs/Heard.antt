@@ -7,13 +7,13 @@ use Rattle.widget_meaning.specs.Dispatch.{dispatch, hear_found, nearest}
 use Rattle.widget_meaning.specs.OwnState.{State}
 use Rattle.widget_meaning.specs.Turns.{begun}
 use Rattle.widget_meaning.specs.Values.{Value}
-use Rattle.event_image.specs.Image.{Shows}
+use Rattle.page_image.specs.Around.{Shows}
 use Rattle.event_loop.specs.declared.around.Loop.{Loop}
 use Rattle.native_image.specs.Image.{Outside, beside, image}
 use Rattle.native_image.specs.Sound.{IsSound}
 use Rattle.native_image.proofs.Joint.{image_shows}
-use Rattle.turn_returns.specs.level.Heard.{Heard}
-use Rattle.turn_returns.specs.Levels.{heard_plan}
+use Rattle.turn_dispatch.specs.declared.level.Heard.{Heard}
+use Rattle.turn_dispatch.specs.Levels.{heard_plan}
 use Rattle.life_queue.specs.declared.life.Life.{Life}
 use Rattle.native_image.specs.declared.handed.Shared.{Shared}
 use Rattle.life_queue.specs.Lives.{own_of, trees_in}

@@ -17,7 +17,7 @@ use Rattle.native_image.proofs.Keeping.{grows_next, holds_page, host_here, page_
 use Rattle.object_store.proofs.Growth.{grows_same}
 use Rattle.page_image.specs.Image.{owns}
 use Rattle.native_image.specs.declared.handed.Shared.{Shared}
-use Rattle.turn_returns.specs.declared.turn.Turn.{Turn}
+use Rattle.turn_dispatch.specs.declared.turn.Turn.{Turn}
 use Rattle.native_image.specs.declared.handed.Widget.{Widget}
 use Rattle.life_queue.specs.declared.life.Life.{Life}
 use Rattle.life_queue.specs.Lives.{trees_in}

@@ -14,7 +14,7 @@ use Rattle.page_image.proofs.Pages.{is_widget}
 use Rattle.page_image.proofs.Shown.{own_child}
 use Rattle.event_loop.specs.Deliveries.{leads}
 use Rattle.event_loop.proofs.Ways.{got_listed}
-use Rattle.event_image.proofs.Events.{leads_image}
+use Rattle.page_image.proofs.Events.{leads_image}
 
 module _ (p : Page) (w : ℕ) where
   child_own : (n step c : ℕ) → owns p w n ≡ true → slice_get (at (nodes p) n).children step ≡ Some c → owns p w c ≡ true

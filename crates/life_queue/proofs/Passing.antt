@@ -12,13 +12,13 @@ use Rattle.native_image.specs.Image.{Outside}
 use Rattle.native_image.specs.Sound.{IsSound}
 use Rattle.life_laws.specs.Life.{Same, Seen, potential, potentials, started, waiting, weight}
 use Rattle.life_laws.proofs.Begins.{same_more}
-use Rattle.turn_returns.specs.level.Doing.{Doing}
-use Rattle.turn_returns.specs.level.Level.{Level}
-use Rattle.turn_returns.specs.Held.{FineDoing}
-use Rattle.turn_returns.specs.Levels.{turn_plan}
-use Rattle.turn_returns.specs.declared.calls.Calls.{Calls}
-use Rattle.turn_returns.specs.Turns.{turn_image}
-use Rattle.turn_returns.specs.Waiting.{FineLevels}
+use Rattle.turn_dispatch.specs.declared.level.Doing.{Doing}
+use Rattle.turn_dispatch.specs.declared.level.Level.{Level}
+use Rattle.turn_dispatch.specs.Held.{FineDoing}
+use Rattle.turn_dispatch.specs.Levels.{turn_plan}
+use Rattle.turn_dispatch.specs.declared.calls.Calls.{Calls}
+use Rattle.turn_dispatch.specs.Turns.{turn_image}
+use Rattle.turn_dispatch.specs.Waiting.{FineLevels}
 use Rattle.life_queue.specs.declared.life.Life.{Life}
 use Rattle.life_queue.specs.declared.life.Work.{Work}
 use Rattle.native_image.specs.declared.handed.Shared.{Shared}

@@ -7,7 +7,7 @@ use Rattle.life_laws.specs.Life as todo
 use Rattle.life_laws.specs.Life.{Same, Seen, potential, potentials, weight}
 use Rattle.life_laws.proofs.Begins.{same_more}
 use Rattle.native_image.specs.declared.handed.Shared.{Shared}
-use Rattle.turn_returns.specs.declared.turn.Turn.{Turn}
+use Rattle.turn_dispatch.specs.declared.turn.Turn.{Turn}
 use Rattle.life_queue.specs.declared.life.Life.{Life}
 use Rattle.life_queue.specs.declared.life.Work.{Work}
 use Rattle.life_queue.specs.Lives.{going_of, life_seen, life_with, own_of, trees_in, work_of, works_of}

@@ -15,7 +15,7 @@ use Rattle.page_image.specs.Stays.{KeepsNodes}
 use Rattle.page_tree.specs.declared.page.Page.{Page}
 use Rattle.event_loop.specs.declared.delivery.Event.{Event as Told}
 use Rattle.event_loop.specs.Deliveries.{found_of}
-use Rattle.event_image.specs.Image.{Shows, own_found}
+use Rattle.page_image.specs.Around.{Shows, own_found}
 use Rattle.native_image.specs.Sound.{HoldsOwn}
 use Rattle.native_image.proofs.Joint.{image_shows, page_lift}
 use Rattle.life_laws.specs.Life.{Same, started, waiting}

@@ -5,8 +5,8 @@ use Rattle.std.specs.Option.{option_map}
 use Rattle.widget_meaning.specs.Values as meaning
 use Rattle.life_laws.specs.Life.{Seen, waiting}
 use Rattle.life_queue.specs.declared.life.Life.{Life}
-use Rattle.turn_returns.specs.Stop.{Stop}
-use Rattle.turn_returns.specs.declared.turn.Turn.{Turn}
+use Rattle.turn_dispatch.specs.Stop.{Stop}
+use Rattle.turn_dispatch.specs.declared.turn.Turn.{Turn}
 use Rattle.native_image.specs.declared.handed.Shared.{Shared}
 use Rattle.life_queue.specs.Lives.{going_of, life_seen, meant_stop, own_of, works_of}
 

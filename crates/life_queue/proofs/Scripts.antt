@@ -22,10 +22,10 @@ use Rattle.native_image.specs.Image.{Outside, beside, image}
 use Rattle.native_image.specs.Sound.{IsSound, KeepsStore}
 use Rattle.native_image.proofs.Joint.{rest, sound_grows, store_lift}
 use Rattle.page_image.specs.Image.{owns}
-use Rattle.turn_returns.specs.level.Doing.{Doing}
-use Rattle.turn_returns.specs.level.Level.{Level}
-use Rattle.turn_returns.specs.level.Level.TheVariants as level
-use Rattle.turn_returns.specs.Levels.{keeps_on, levels_rest, turn_plan}
+use Rattle.turn_dispatch.specs.declared.level.Doing.{Doing}
+use Rattle.turn_dispatch.specs.declared.level.Level.{Level}
+use Rattle.turn_dispatch.specs.declared.level.Level.TheVariants as level
+use Rattle.turn_dispatch.specs.Levels.{keeps_on, levels_rest, turn_plan}
 use Rattle.life_queue.specs.declared.life.Life.{Life}
 use Rattle.native_image.specs.declared.handed.Shared.{Shared}
 use Rattle.life_queue.specs.Lives.{trees_in}

@@ -20,8 +20,8 @@ use Rattle.event_loop.specs.declared.around.Loop.{Loop}
 use Rattle.event_loop.specs.declared.timers.Timer.{Timer}
 use Rattle.event_loop.specs.Kept.{PlainKept}
 use Rattle.event_loop.specs.Timers as timers
-use Rattle.event_image.specs.Image.{Shows, after_due, timer_of}
-use Rattle.event_image.proofs.States.{due_image, due_shows}
+use Rattle.page_image.specs.Around.{Shows, after_due, timer_of}
+use Rattle.page_image.proofs.States.{due_image, due_shows}
 use Rattle.js_image.specs.Image.{Rest, image as store_image, seen}
 use Rattle.native_image.specs.Image.{beside}
 use Rattle.native_image.specs.Sound.{HoldsOwn, IsOwnCell, IsSound}
@@ -30,9 +30,9 @@ use Rattle.native_image.proofs.Keeping.{host_here, page_same}
 use Rattle.life_laws.specs.Life as todo
 use Rattle.life_laws.specs.Life.{Same, potentials, started, waiting}
 use Rattle.life_laws.proofs.Begins.{until_begins, until_none, until_stopped}
-use Rattle.turn_returns.specs.Answered.{remaining}
-use Rattle.turn_returns.specs.Task.{Task}
-use Rattle.turn_returns.proofs.Stays.{own_seen}
+use Rattle.turn_dispatch.specs.Answered.{remaining}
+use Rattle.turn_dispatch.specs.Task.{Task}
+use Rattle.turn_dispatch.proofs.Stays.{own_seen}
 use Rattle.life_queue.specs.declared.life.Life.{Life}
 use Rattle.life_queue.specs.declared.life.Work.TheVariants as work
 use Rattle.native_image.specs.declared.handed.Widget.{Widget}

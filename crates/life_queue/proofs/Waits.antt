@@ -32,15 +32,15 @@ use Rattle.js_flow.specs.Todo.{todo}
 use Rattle.js_flow.specs.Views.{job_of, name_at}
 use Rattle.js_flow.proofs.Stays.{all_fine, all_same, completion_fine, completion_same, frames_fine, place_fine, place_same, rest_same}
 use Rattle.plan_ends.specs.Ends.{ByValue, Yields}
-use Rattle.turn_returns.specs.Ending.{EndsCall}
-use Rattle.turn_returns.proofs.Ending.{awaits_later}
-use Rattle.turn_returns.specs.level.Doing.{Doing}
-use Rattle.turn_returns.specs.level.Doing.TheVariants as doing
-use Rattle.turn_returns.specs.level.Level.{Level}
-use Rattle.turn_returns.specs.Held.{FineDoing}
-use Rattle.turn_returns.specs.Levels.{turn_plan}
-use Rattle.turn_returns.specs.Waiting.{FineLevels}
-use Rattle.turn_returns.proofs.Stays.{hearing_fine, hearing_same, levels_same}
+use Rattle.turn_dispatch.specs.Ending.{EndsCall}
+use Rattle.turn_dispatch.proofs.Ending.{awaits_later}
+use Rattle.turn_dispatch.specs.declared.level.Doing.{Doing}
+use Rattle.turn_dispatch.specs.declared.level.Doing.TheVariants as doing
+use Rattle.turn_dispatch.specs.declared.level.Level.{Level}
+use Rattle.turn_dispatch.specs.Held.{FineDoing}
+use Rattle.turn_dispatch.specs.Levels.{turn_plan}
+use Rattle.turn_dispatch.specs.Waiting.{FineLevels}
+use Rattle.turn_dispatch.proofs.Stays.{hearing_fine, hearing_same, levels_same}
 
 module _ (w : ℕ) (old new : List PlainCell) (g : Grows w old new) where
   this_same : (o : Option Value) → IfSome o (IsFine w old) → option_map (seen w new) o ≡ option_map (seen w old) o

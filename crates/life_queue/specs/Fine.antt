@@ -13,10 +13,10 @@ use Rattle.js_image.specs.Held.{IsConfined, IsHeld}
 use Rattle.js_image.specs.Image.{seen}
 use Rattle.native_image.specs.Sound.{HoldsOwn, IsSound, KeepsPage}
 use Rattle.life_laws.specs.Life.{potentials}
-use Rattle.turn_returns.specs.Held.{FineDoing, IsScriptOf}
-use Rattle.turn_returns.specs.Waiting.{FineLevels}
+use Rattle.turn_dispatch.specs.Held.{FineDoing, IsScriptOf}
+use Rattle.turn_dispatch.specs.Waiting.{FineLevels}
 use Rattle.life_queue.specs.declared.life.Life.{Life}
-use Rattle.turn_returns.specs.declared.turn.Turn.{Turn}
+use Rattle.turn_dispatch.specs.declared.turn.Turn.{Turn}
 use Rattle.life_queue.specs.declared.life.Work.{Work}
 use Rattle.life_queue.specs.declared.life.Work.TheVariants as work
 use Rattle.native_image.specs.declared.handed.Shared.{Shared}

@@ -1,5 +1,6 @@
-pub use Rattle.turn_returns.specs.declared.turn.Turn
-pub use Rattle.turn_returns.specs.Stop
+pub use Rattle.turn_dispatch.specs.declared.turn.Turn
+pub use Rattle.turn_dispatch.specs.Held
+pub use Rattle.turn_dispatch.specs.Stop
 pub mod Lives
 pub mod Fine
 pub mod Taken

@@ -16,15 +16,15 @@ use Rattle.js_flow.specs.Parts.{forest_at}
 use Rattle.native_image.specs.Image.{Outside, beside, image}
 use Rattle.life_laws.specs.Life as todo
 use Rattle.life_laws.specs.Life.{Going, Seen}
-use Rattle.turn_returns.specs.Stop.{Stop}
-use Rattle.turn_returns.specs.Stop.TheVariants as stop
-use Rattle.turn_returns.specs.level.Doing.{Doing}
-use Rattle.turn_returns.specs.Levels.{turn_plan}
-use Rattle.turn_returns.specs.declared.calls.Calls.{Calls}
-use Rattle.turn_returns.specs.Turns.{turn_image}
+use Rattle.turn_dispatch.specs.Stop.{Stop}
+use Rattle.turn_dispatch.specs.Stop.TheVariants as stop
+use Rattle.turn_dispatch.specs.declared.level.Doing.{Doing}
+use Rattle.turn_dispatch.specs.Levels.{turn_plan}
+use Rattle.turn_dispatch.specs.declared.calls.Calls.{Calls}
+use Rattle.turn_dispatch.specs.Turns.{turn_image}
 use Rattle.life_queue.specs.declared.life.Life.{Life}
 use Rattle.life_queue.specs.declared.life.Script.{Script}
-use Rattle.turn_returns.specs.declared.turn.Turn.{Turn}
+use Rattle.turn_dispatch.specs.declared.turn.Turn.{Turn}
 use Rattle.life_queue.specs.declared.life.Work.{Work}
 use Rattle.life_queue.specs.declared.life.Work.TheVariants as work
 use Rattle.native_image.specs.declared.handed.Shared.{Shared}

@@ -3,7 +3,7 @@ ghost use Rattle.std.specs.Prelude.{◌≡◌, ◌+◌, ◌<◌, ◌^◌};
 ghost use Rattle.life_queue.specs.Lives.{begun_with};
 
 use crate::life::Life;
-use turn_returns::{Calls, Doing, Turn};
+use turn_dispatch::{Calls, Doing, Turn};
 
 /// A turn begins: it counts, and has its whole grant.
 pub(crate) fn begin(life: &mut Life, doing: Doing, calls: Calls)

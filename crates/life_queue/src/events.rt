@@ -10,16 +10,16 @@ ghost use Rattle.widget_meaning.specs.Trees.{node_at};
 ghost use Rattle.page_tree.specs.declared.page.Page.{Page as PageOf};
 ghost use Rattle.page_image.specs.Image.{HasRoot, forest, label_at, number, owns};
 ghost use Rattle.page_image.specs.Stays.{HostStays, KeepsNodes, OthersStay};
-ghost use Rattle.event_image.specs.Image.{Shows};
+ghost use Rattle.page_image.specs.Around.{Shows};
 ghost use Rattle.event_loop.specs.declared.around.Loop.{Loop as LoopOf};
 ghost use Rattle.native_image.specs.Image.{Outside};
 ghost use Rattle.native_image.specs.Sound.{IsOwnCell};
 ghost use Rattle.js_image.specs.Held.{IsFine};
 ghost use Rattle.js_image.specs.Image.{seen};
-ghost use Rattle.turn_returns.specs.Held.{FineDoing, FineHeard};
-ghost use Rattle.turn_returns.specs.Levels.{heard_plan, turn_plan};
-ghost use Rattle.turn_returns.specs.Turns.{turn_image};
-ghost use Rattle.turn_returns.specs.Waiting.{FineLevels};
+ghost use Rattle.turn_dispatch.specs.Held.{FineDoing, FineHeard};
+ghost use Rattle.turn_dispatch.specs.Levels.{heard_plan, turn_plan};
+ghost use Rattle.turn_dispatch.specs.Turns.{turn_image};
+ghost use Rattle.turn_dispatch.specs.Waiting.{FineLevels};
 ghost use Rattle.life_queue.specs.Lives.{is_input_label};
 ghost use Rattle.life_queue.specs.Fine.{FineLife, KeepsLife, tally};
 ghost use Rattle.life_queue.specs.Taken.{Starts, Takes};
@@ -31,13 +31,12 @@ use crate::life::Life;
 use code_units::{Memory, Text, is_word};
 use event_loop::Event;
 use js_image::word;
-use native_common::WidgetId;
-use native_image::Shared;
+use native_image::{Shared, WidgetId};
 use object_store::{CellId, Value};
 use page_image::{set_attr, tag};
 use page_tree::{NodeId, Page};
 use std::alloc::Global;
-use turn_returns::{Calls, Dispatch, Doing, Heard, hear, listeners};
+use turn_dispatch::{Calls, Dispatch, Doing, Heard, hear, listeners};
 
 // Whether a node is an `input`.
 fn is_input(page: &Page, w: u32, node: NodeId) -> bool

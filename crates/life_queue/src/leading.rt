@@ -8,7 +8,7 @@ ghost use Rattle.page_image.specs.Held.{OptionIn};
 ghost use Rattle.page_image.specs.Image.{HasRoot, forest, number, owns, root_of};
 
 use code_units::Owner;
-use native_common::WidgetId;
+use native_image::WidgetId;
 use page_tree::{NodeId, Page};
 
 // The root of a widget.

@@ -11,4 +11,4 @@ mod works;
 
 pub use life::{Life, Records, Script, Work};
 pub use queue::begin_turn;
-pub use turn_returns::{Stop, Turn};
+pub use turn_dispatch::{Stop, Turn};

@@ -6,7 +6,7 @@ use js_tree::FunId;
 use native_image::Widget;
 use object_store::CellId;
 use std::collections::VecDeque;
-use turn_returns::{Stop, Turn};
+use turn_dispatch::{Stop, Turn};
 
 /// What is recorded of a life. In a turn `spent` is what was spent when it began.
 #[derive(Drop)]

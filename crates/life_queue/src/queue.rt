@@ -9,8 +9,7 @@ use crate::events::take_event;
 use crate::life::{Life, Work};
 use crate::works::{take_advance, take_go, take_library, take_until};
 use code_units::Memory;
-use native_common::WidgetId;
-use native_image::Shared;
+use native_image::{Shared, WidgetId};
 use std::alloc::Global;
 
 // One work.

@@ -4,8 +4,8 @@ ghost use Rattle.js_tree.specs.Forest.{Forest};
 ghost use Rattle.store_cells.specs.Cells.{Cells};
 ghost use Rattle.widget_meaning.specs.Plan as plan;
 ghost use Rattle.widget_meaning.specs.Plan.{Do, Ret};
-ghost use Rattle.turn_returns.specs.Answered.{remaining};
-ghost use Rattle.turn_returns.specs.Held.{FineTask};
+ghost use Rattle.turn_dispatch.specs.Answered.{remaining};
+ghost use Rattle.turn_dispatch.specs.Held.{FineTask};
 ghost use Rattle.life_laws.specs.Life.{potential};
 ghost use Rattle.page_tree.specs.declared.page.Page.{Page as PageOf};
 ghost use Rattle.js_image.specs.Held.{IsHeld};
@@ -19,11 +19,10 @@ ghost use Rattle.life_queue.specs.declared.life.Work.TheVariants as work;
 use crate::begins::begin;
 use crate::life::{Life, Script, Work};
 use code_units::Memory;
-use native_common::WidgetId;
-use native_image::Shared;
+use native_image::{Shared, WidgetId};
 use object_store::{CellId, HostEntry, Store, Value};
 use std::alloc::Global;
-use turn_returns::{Calls, Doing, Level, Task, open_script};
+use turn_dispatch::{Calls, Doing, Level, Task, open_script};
 
 // The laws of the store, together.
 fn lawful(store: &Store)
@@ -114,7 +113,7 @@ fn call(alloc: Global, w: u32, func: CellId) -> Result<Box<Task>, Memory>
     ensures fine { IfOk result (λ t. (fs : List Forest) (s : Cells) (p : PageOf) → IsHeld w s.cells func
         → FineTask fs w s p t.value) }
 {
-    let task = turn_returns::begin(alloc, w, func, &[], 0)?;
+    let task = turn_dispatch::begin(alloc, w, func, &[], 0)?;
     Ok(Box::new(alloc, task)?)
 }
 

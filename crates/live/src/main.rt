@@ -2,8 +2,7 @@
 //! output, handed to `live`.
 #![tactic(auto)]
 
-use host_io::{RealFiles, RealSink};
-use line_io::RealLines;
+use host_io::{RealFiles, RealLines, RealSink};
 use live_lines::{Status, live};
 use std::env;
 use std::io::{BufReader, ErrorKind};

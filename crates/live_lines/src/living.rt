@@ -11,8 +11,7 @@ ghost use Rattle.live_lines.specs.Outcome.{Ends, HasLiveFiles, IsLiveForm, IsOpe
 
 use crate::answering::{LINE_LIMIT, answer_line};
 use crate::asking::parse;
-use host_io::{Files, ReadFail, Sink, write_whole};
-use line_io::Lines;
+use host_io::{Files, Lines, ReadFail, Sink, write_whole};
 use live_text::push_full;
 use page_check::read_manifests_fit;
 use page_live::{LivePage, Session, some_refused};

@@ -24,7 +24,7 @@ use Rattle.page_image.specs.Stays.{KeepsNodes}
 use Rattle.page_image.proofs.Kept.{all_same}
 use Rattle.page_image.proofs.Looks.{made_is}
 use Rattle.page_image.proofs.Pages.{is_widget}
-use Rattle.event_image.specs.Image.{Shows, handler_of, kept_of, own_focus, own_kept, own_timers, timer_of}
+use Rattle.page_image.specs.Around.{Shows, handler_of, kept_of, own_focus, own_kept, own_timers, timer_of}
 use Rattle.native_image.specs.Image.{Outside, Parts, beside, dispatches_of, image}
 use Rattle.native_image.specs.Sound.{HasRaw, HoldsOwn, IsOwnCell, IsSound, KeepsStore}
 

@@ -34,7 +34,7 @@ use Rattle.native_common.proofs.Loops.{over_yes}
 use Rattle.page_image.proofs.Marked.{AllIn}
 use Rattle.page_image.proofs.Pages.{is_widget}
 use Rattle.event_loop.specs.declared.around.Loop.{Loop}
-use Rattle.event_image.proofs.Growth.{grows}
+use Rattle.page_image.proofs.Changing.{grows}
 use Rattle.js_image.specs.Held.{Kept, PassNodes}
 use Rattle.js_image.specs.Image as joint
 use Rattle.js_image.specs.Image.{Rest, meant_cell, meant_counts, meant_kind, node_number, state_of}

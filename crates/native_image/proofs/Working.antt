@@ -24,7 +24,7 @@ use Rattle.js_values.specs.declared.outcome.NativeOut.TheVariants as native
 use Rattle.page_tree.specs.declared.page.Page.{Page}
 use Rattle.page_image.specs.Image.{number}
 use Rattle.event_loop.specs.declared.around.Loop.{Loop}
-use Rattle.event_image.specs.Image.{Shows}
+use Rattle.page_image.specs.Around.{Shows}
 use Rattle.native_common.specs.Refines.{Refines}
 use Rattle.native_common.specs.Numbers.{counted}
 use Rattle.native_image.specs.Charges.{Begins, Price, pay_for}

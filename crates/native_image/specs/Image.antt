@@ -10,7 +10,7 @@ use Rattle.event_loop.specs.declared.around.Loop.{Loop}
 use Rattle.event_loop.specs.Around as around
 use Rattle.js_image.specs.Image.{meant_cell, meant_counts, meant_scope}
 use Rattle.page_image.specs.Image as page
-use Rattle.event_image.specs.Image.{own_focus, own_kept, own_timers}
+use Rattle.page_image.specs.Around.{own_focus, own_kept, own_timers}
 
 -- What no native of the page sees: the host's records of the widget, and the open dispatches but the innermost.
 pub record Outside : Type 0 where

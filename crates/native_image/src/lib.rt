@@ -18,4 +18,5 @@ pub use giving::{give_page_text, give_plain, make_text};
 pub use growing::{add_tree, copy_tree};
 pub use handed::{Receiver, Shared, Widget};
 pub use making::{give_node, pay_judged};
+pub use native_common::WidgetId;
 pub use weighing::{Bill, Due, settle, weigh};

@@ -18,7 +18,7 @@ use Rattle.event_loop.specs.Around.{SameButTimers}
 use Rattle.event_loop.specs.Timers as timers
 use Rattle.event_loop.specs.declared.around.Loop.{Loop}
 use Rattle.event_loop.specs.declared.timers.Timer.{Timer}
-use Rattle.event_image.specs.Image.{kept_of, own_kept, own_timers, timer_of}
+use Rattle.page_image.specs.Around.{kept_of, own_kept, own_timers, timer_of}
 use Rattle.page_image.specs.Held.{OptionIn}
 use Rattle.page_image.specs.Image.{number, own, owns}
 use Rattle.page_image.proofs.Kept.{all_same}

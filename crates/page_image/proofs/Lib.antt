@@ -26,3 +26,7 @@ pub mod Rooting
 pub mod Adopting
 pub mod Refusing
 pub mod Hosting
+pub mod Events
+pub mod Going
+pub mod States
+pub mod Changing

@@ -5,3 +5,4 @@ pub mod Stays
 pub mod Targets
 pub mod Refusals
 pub mod Copies
+pub mod Around

@@ -7,9 +7,9 @@ use Rattle.trace_reader.specs.Said.{Said, an_event, an_advance, a_swap}
 use Rattle.widget_meaning.specs.Items.{Item}
 use Rattle.post_rounds.specs.declared.posts.Post.{Post}
 use Rattle.post_rounds.specs.News.{news}
-use Rattle.round_laws.specs.Fed.{Fed, RoundsTo, ended, again, fed_on, fresh, round_from}
-use Rattle.round_laws.specs.RoundLaws.{fed_at}
-use Rattle.round_laws.proofs.LawsHold.{round_laws}
+use Rattle.life_laws.specs.Fed.{Fed, RoundsTo, ended, again, fed_on, fresh, round_from}
+use Rattle.life_laws.specs.RoundLaws.{fed_at}
+use Rattle.life_laws.proofs.RoundsHold.{round_laws}
 use Rattle.page_plan.specs.declared.PageSpec.{PageSpec}
 use Rattle.page_plan.specs.declared.SlotContent.{SlotContent}
 use Rattle.page_plan.specs.declared.SlotSpec.{SlotSpec}

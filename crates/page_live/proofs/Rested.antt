@@ -5,11 +5,11 @@ use Rattle.std.proofs.lemmas.List.{length-map}
 use Rattle.trace_reader.specs.Said.{Said}
 use Rattle.post_rounds.specs.declared.posts.Post.{Post}
 use Rattle.post_rounds.specs.News.{news}
-use Rattle.pick_laws.specs.Journal.{ready_from}
-use Rattle.slot_laws.specs.Slots.{Each, has}
-use Rattle.slot_laws.specs.Chains.{last_life, listed}
-use Rattle.slot_laws.specs.Settled.{slot_flags}
-use Rattle.round_laws.specs.Fed.{Fed, RoundsTo, ended, again, fed_on, fresh, round_from, state}
+use Rattle.life_laws.specs.Journal.{ready_from}
+use Rattle.life_laws.specs.Slots.{Each, has}
+use Rattle.life_laws.specs.Chains.{last_life, listed}
+use Rattle.life_laws.specs.Settled.{slot_flags}
+use Rattle.life_laws.specs.Fed.{Fed, RoundsTo, ended, again, fed_on, fresh, round_from, state}
 use Rattle.page_plan.specs.declared.PageSpec.{PageSpec}
 use Rattle.page_plan.specs.declared.SlotContent.{SlotContent}
 use Rattle.page_plan.specs.Pages.{piece_of}

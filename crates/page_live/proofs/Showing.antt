@@ -8,7 +8,7 @@ use Rattle.manifest_reader.specs.Page.{Part}
 use Rattle.slot_check.specs.Sources.{Source}
 use Rattle.page_output.specs.Printing.{Prints}
 use Rattle.widget_meaning.specs.OwnState.{OwnState}
-use Rattle.round_laws.specs.Fed.{Fed}
+use Rattle.life_laws.specs.Fed.{Fed}
 use Rattle.page_plan.specs.Pages.{page_of, piece_of, roots}
 use Rattle.page_check.specs.Runs.{SlotRun, pieces}
 use Rattle.slot_lives.specs.Ends.{end_of, run_name}

@@ -8,13 +8,13 @@ use Rattle.adsafe_rules.specs.Accepts.{tree_of}
 use Rattle.js_tree.specs.declared.tree.Tree.{Tree}
 use Rattle.trace_reader.specs.Said.{Said, a_swap}
 use Rattle.life_laws.specs.Life.{due, image, ready, Going, Work}
-use Rattle.pick_laws.specs.Journal.{on_at}
-use Rattle.slot_laws.specs.Slots.{Each, has}
-use Rattle.slot_laws.specs.Chains.{Chains, Rest, joins, last_at, last_from, last_life, listed}
+use Rattle.life_laws.specs.Journal.{on_at}
+use Rattle.life_laws.specs.Slots.{Each, has}
+use Rattle.life_laws.specs.Chains.{Chains, Rest, joins, last_at, last_from, last_life, listed}
 use Rattle.widget_meaning.specs.OwnState.{OwnState}
 use Rattle.widget_meaning.specs.Items.{Item}
-use Rattle.round_laws.specs.Fed.{Fed, state}
-use Rattle.round_laws.specs.RoundLaws.{fed_at}
+use Rattle.life_laws.specs.Fed.{Fed, state}
+use Rattle.life_laws.specs.RoundLaws.{fed_at}
 use Rattle.page_plan.specs.declared.PageSpec.{PageSpec}
 use Rattle.page_plan.specs.declared.SlotContent.{SlotContent}
 use Rattle.page_plan.specs.declared.SlotSpec.{SlotSpec}

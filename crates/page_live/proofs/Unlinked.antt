@@ -2,8 +2,8 @@
 use Rattle.std.proofs.Common.{◌≡◌, ℕ, zero, suc, List, [], ◌∷◌, map, Option, Some, ap, subst, ◌∙◌}
 use Rattle.std.specs.Prelude.{slice_get}
 use Rattle.trace_reader.specs.Said.{Said}
-use Rattle.round_laws.specs.Fed.{Fed}
-use Rattle.slot_laws.specs.Chains.{last_at, last_life}
+use Rattle.life_laws.specs.Fed.{Fed}
+use Rattle.life_laws.specs.Chains.{last_at, last_life}
 use Rattle.page_plan.specs.declared.PageSpec.{PageSpec}
 use Rattle.page_plan.specs.declared.SlotContent.{SlotContent}
 use Rattle.slot_lives.specs.Ends.{end_of}

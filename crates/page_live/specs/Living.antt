@@ -1,12 +1,12 @@
 -- A page that takes its items one after the other: between two of them rounds of posts follow to their end.
 use Rattle.std.specs.Prelude.{◌≡◌, ◌<◌, ◌++◌, ℕ, List, [], ◌∷◌, map, length, false, slice_index_or, Option}
 use Rattle.trace_reader.specs.Said.{Said, a_swap}
-use Rattle.round_laws.specs.Fed.{Fed, RoundsTo}
-use Rattle.round_laws.specs.RoundLaws.{fed_at}
-use Rattle.slot_laws.specs.Slots.{Each, has}
-use Rattle.slot_laws.specs.Chains.{last_life, listed}
-use Rattle.slot_laws.specs.Settled.{slot_flags}
-use Rattle.pick_laws.specs.Journal.{ready_from}
+use Rattle.life_laws.specs.Fed.{Fed, RoundsTo}
+use Rattle.life_laws.specs.RoundLaws.{fed_at}
+use Rattle.life_laws.specs.Slots.{Each, has}
+use Rattle.life_laws.specs.Chains.{last_life, listed}
+use Rattle.life_laws.specs.Settled.{slot_flags}
+use Rattle.life_laws.specs.Journal.{ready_from}
 use Rattle.page_plan.specs.declared.PageSpec.{PageSpec}
 use Rattle.page_plan.specs.declared.SlotContent.{SlotContent}
 use Rattle.page_plan.specs.Contents.{content_of}

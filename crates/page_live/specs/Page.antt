@@ -9,7 +9,7 @@ use Rattle.slot_check.specs.Sources.{Source}
 use Rattle.slot_check.specs.Verdicts.{sources_of, IsSmall}
 use Rattle.page_output.specs.Printing.{Prints}
 use Rattle.widget_meaning.specs.OwnState.{OwnState}
-use Rattle.round_laws.specs.Fed.{Fed}
+use Rattle.life_laws.specs.Fed.{Fed}
 use Rattle.page_plan.specs.declared.PageSpec.{PageSpec}
 use Rattle.page_plan.specs.declared.SlotContent.{SlotContent}
 use Rattle.page_plan.specs.Pages.{PagePiece, page_of, piece_of, root_of, roots}

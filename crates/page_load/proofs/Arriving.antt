@@ -22,13 +22,13 @@ use Rattle.js_image.specs.Held.{IsConfined, Kept, PassNodes}
 use Rattle.js_image.proofs.Grown.{kept_same}
 use Rattle.native_image.proofs.Added.{raw_stays}
 use Rattle.life_laws.specs.Life.{Seen, potentials}
-use Rattle.slot_laws.specs.Settled.{flag}
-use Rattle.slot_laws.proofs.Passing.{get_other}
+use Rattle.life_laws.specs.Settled.{flag}
+use Rattle.life_laws.proofs.Passing.{get_other}
 use Rattle.native_image.specs.declared.handed.Shared.{Shared}
-use Rattle.life_queue.specs.Turn.{Turn}
-use Rattle.life_queue.specs.Fine.{FineLife, FineTurn, KeepsCells, most_fuel, tally}
-use Rattle.life_queue.specs.Lives.{life_seen}
-use Rattle.life_queue.proofs.Apart.{LeavesPage, fine_left, holds_left, seen_left, turn_left}
+use Rattle.slot_picks.specs.Turn.{Turn}
+use Rattle.slot_picks.specs.Fine.{FineLife, FineTurn, KeepsCells, most_fuel, tally}
+use Rattle.slot_picks.specs.QueueLives.{life_seen}
+use Rattle.slot_picks.proofs.Apart.{LeavesPage, fine_left, holds_left, seen_left, turn_left}
 use Rattle.slot_picks.specs.declared.lives.Lives.{Lives}
 use Rattle.slot_picks.specs.declared.lives.Place.{Place}
 use Rattle.slot_picks.specs.declared.slots.Slot.{Slot}

@@ -24,7 +24,7 @@ use Rattle.event_loop.specs.Kept.{PlainKept}
 use Rattle.event_loop.specs.declared.around.Loop.{Loop}
 use Rattle.event_loop.specs.declared.timers.Timer.{Timer}
 use Rattle.event_loop.specs.Kept as kept_with
-use Rattle.event_image.specs.Image.{kept_of, timer_of}
+use Rattle.page_image.specs.Around.{kept_of, timer_of}
 use Rattle.js_image.specs.Held.{IsConfined, Kept, PassNodes}
 use Rattle.js_image.specs.Image.{meant_cell, meant_counts, meant_scope}
 use Rattle.native_image.specs.Sound.{HoldsOwn, IsOwnCell, KeepsPage}
@@ -33,11 +33,11 @@ use Rattle.native_image.proofs.Keeping.{page_same}
 use Rattle.life_laws.specs.Life.{potentials, waiting}
 use Rattle.native_image.specs.declared.handed.Shared.{Shared}
 use Rattle.native_image.specs.declared.handed.Widget.{Widget}
-use Rattle.life_queue.specs.Turn.{Turn}
-use Rattle.life_queue.specs.declared.life.Life.{Life}
-use Rattle.life_queue.specs.Lives.{going_of, life_seen, meant_stop, own_of, post_of, trees_in, work_of, works_of}
-use Rattle.life_queue.specs.Fine.{FineLife, FineTurn, FineWork, KeepsCells, held_back, most_fuel, tally}
-use Rattle.life_queue.proofs.Apart.{fine_apart, seen_apart}
+use Rattle.slot_picks.specs.Turn.{Turn}
+use Rattle.slot_picks.specs.life.Life.{Life}
+use Rattle.slot_picks.specs.QueueLives.{going_of, life_seen, meant_stop, own_of, post_of, trees_in, work_of, works_of}
+use Rattle.slot_picks.specs.Fine.{FineLife, FineTurn, FineWork, KeepsCells, held_back, most_fuel, tally}
+use Rattle.slot_picks.proofs.Apart.{fine_apart, seen_apart}
 use Rattle.slot_picks.specs.declared.lives.Place.{Place}
 use Rattle.slot_picks.specs.Places.{lent}
 use Rattle.page_build.specs.Homes.{HaveRaws}

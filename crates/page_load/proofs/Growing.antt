@@ -22,16 +22,16 @@ use Rattle.life_laws.specs.Life.{waiting}
 use Rattle.page_nodes.specs.Entries.{body}
 use Rattle.page_tree.specs.declared.page.Page.{Page}
 use Rattle.native_image.specs.declared.handed.Shared.{Shared}
-use Rattle.turn_dispatch.specs.Held.{IsScriptOf}
-use Rattle.life_queue.specs.declared.life.Life.{Life}
-use Rattle.life_queue.specs.declared.life.Script.{Script}
-use Rattle.life_queue.specs.declared.life.Work.{Work}
-use Rattle.life_queue.specs.declared.life.Work.TheVariants as work
-use Rattle.life_queue.specs.Lives.{function_of, work_of}
+use Rattle.slot_picks.specs.Held.{IsScriptOf}
+use Rattle.slot_picks.specs.life.Life.{Life}
+use Rattle.slot_picks.specs.life.Script.{Script}
+use Rattle.slot_picks.specs.life.Work.{Work}
+use Rattle.slot_picks.specs.life.Work.TheVariants as work
+use Rattle.slot_picks.specs.QueueLives.{function_of, work_of}
 use Rattle.slot_picks.specs.declared.lives.Place.{Place}
 use Rattle.slot_picks.specs.declared.slots.Slot.{Slot}
 use Rattle.slot_picks.specs.Lives.{chains_of}
-use Rattle.life_queue.specs.Fine.{FineWork, most_fuel}
+use Rattle.slot_picks.specs.Fine.{FineWork, most_fuel}
 use Rattle.page_plan.specs.declared.SlotSpec.{SlotSpec}
 use Rattle.adsafe_rules.specs.declared.accepted.Accepted.{Accepted}
 use Rattle.adsafe_rules.specs.Accepts.{tree_of}

@@ -9,7 +9,7 @@ use Rattle.page_tree.specs.Pages.{nodes}
 use Rattle.page_build.specs.Standing.{AreSpots, Child, Fixed, InSlot, IsLaidBy, IsStanding, filled, has_slot}
 use Rattle.page_build.proofs.Pieces.{spots_of_laid}
 use Rattle.page_plan.specs.Pages.{PagePiece}
-use Rattle.slot_laws.specs.Chains.{listed as has_one}
+use Rattle.life_laws.specs.Chains.{listed as has_one}
 use Rattle.slot_picks.specs.declared.lives.Place.{Place as PlaceOf}
 use Rattle.slot_picks.specs.Places.{roots_of}
 use Rattle.slot_picks.specs.Lives.{is_present, present_of}

@@ -23,7 +23,7 @@ use Rattle.page_image.specs.Image.{forest, own, owns, root_of}
 use Rattle.page_image.proofs.Pages.{below_32}
 use Rattle.widget_meaning.specs.Alone.{Content, beginning}
 use Rattle.life_laws.specs.Life.{due, image, waiting}
-use Rattle.slot_laws.specs.Chains.{Chains, listed as has_one}
+use Rattle.life_laws.specs.Chains.{Chains, listed as has_one}
 use Rattle.native_image.specs.declared.handed.Shared.{Shared}
 use Rattle.slot_picks.specs.declared.lives.Place.{Place}
 use Rattle.slot_picks.specs.declared.slots.Slot.{Slot}

@@ -18,9 +18,9 @@ use Rattle.widget_meaning.specs.Alone.{Content, beginning, call_parts, lib}
 use Rattle.life_laws.specs.Life.{waiting}
 use Rattle.native_image.specs.declared.handed.Shared.{Shared}
 use Rattle.native_image.specs.declared.handed.Widget.{Widget}
-use Rattle.life_queue.specs.declared.life.Life.{Life}
-use Rattle.life_queue.specs.Lives.{life_seen}
-use Rattle.life_queue.specs.Fine.{FineLife, tally}
+use Rattle.slot_picks.specs.life.Life.{Life}
+use Rattle.slot_picks.specs.QueueLives.{life_seen}
+use Rattle.slot_picks.specs.Fine.{FineLife, tally}
 use Rattle.slot_picks.specs.declared.lives.Place.{Place}
 use Rattle.slot_picks.specs.Places.{lent}
 use Rattle.page_build.specs.Homes.{HaveRaws}

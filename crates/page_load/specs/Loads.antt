@@ -12,8 +12,8 @@ use Rattle.page_image.specs.Image.{own}
 use Rattle.widget_meaning.specs.Alone.{Content, beginning, loaded}
 use Rattle.life_laws.specs.Life.{due, image}
 use Rattle.native_image.specs.declared.handed.Shared.{Shared}
-use Rattle.life_queue.specs.Lives.{life_seen}
-use Rattle.life_queue.specs.Fine.{FineLife, most_fuel, tally}
+use Rattle.slot_picks.specs.QueueLives.{life_seen}
+use Rattle.slot_picks.specs.Fine.{FineLife, most_fuel, tally}
 use Rattle.slot_picks.specs.declared.lives.Place.{Place}
 use Rattle.slot_picks.specs.declared.slots.Slot.{Slot}
 use Rattle.slot_picks.specs.Places.{lent}

@@ -9,11 +9,11 @@ use Rattle.js_names.specs.declared.code.Code.{Code}
 use Rattle.js_names.specs.Code.{tree_in}
 use Rattle.widget_meaning.specs.Alone.{Content, call_parts}
 use Rattle.life_laws.specs.Life as todo
-use Rattle.turn_dispatch.specs.Held.{IsScriptOf}
-use Rattle.life_queue.specs.declared.life.Script.{Script}
-use Rattle.life_queue.specs.declared.life.Work.{Work}
-use Rattle.life_queue.specs.Lives.{function_of, text_with, work_of}
-use Rattle.life_queue.specs.Fine.{FineWork}
+use Rattle.slot_picks.specs.Held.{IsScriptOf}
+use Rattle.slot_picks.specs.life.Script.{Script}
+use Rattle.slot_picks.specs.life.Work.{Work}
+use Rattle.slot_picks.specs.QueueLives.{function_of, text_with, work_of}
+use Rattle.slot_picks.specs.Fine.{FineWork}
 
 -- the program of the script with a number
 abbrev pub program_with : List Code → ℕ → Stmts

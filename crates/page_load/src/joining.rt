@@ -3,7 +3,7 @@ ghost use Rattle.std.specs.Prelude.{ℕ, ◌<◌, ◌≤◌, OnErr, OnOk, map};
 ghost use Rattle.js_names.specs.Code.{tree_in};
 ghost use Rattle.plain_tree.specs.Plains.{unplaced};
 ghost use Rattle.page_build.specs.Homes.{HaveRaws};
-ghost use Rattle.life_queue.specs.Fine.{most_fuel};
+ghost use Rattle.slot_picks.specs.Fine.{most_fuel};
 ghost use Rattle.slot_picks.specs.Lives.{FineLives};
 ghost use Rattle.page_load.specs.declared.codes.Scripts.{Scripts as ScriptsOf};
 ghost use Rattle.page_load.specs.Joining.{Comes, HasSeat, IsFree, KeepsRest};

@@ -15,13 +15,12 @@ use crate::queues::load_turns;
 use code_units::{Memory, Owner};
 use event_loop::Loop;
 use keyed_names::Keys;
-use life_queue::{Life, Records, Work};
 use native_common::WidgetId;
 use native_image::{Shared, Widget};
 use object_store::{CellId, HostEntry, NewCell, Store};
 use page_nodes::BODY;
 use page_tree::NodeId;
-use slot_picks::Place;
+use slot_picks::{Life, Place, Records, Work};
 use std::alloc::Global;
 use std::collections::VecDeque;
 

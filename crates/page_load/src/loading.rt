@@ -1,7 +1,7 @@
 //! A page becomes what its host begins with.
 ghost use Rattle.std.specs.Prelude.{◌≡◌, ◌≤◌, ◌∷◌, [], IfOk, length, map};
 ghost use Rattle.slot_picks.specs.declared.slots.Slot.{Slot as SlotOf};
-ghost use Rattle.life_queue.specs.Fine.{most_fuel};
+ghost use Rattle.slot_picks.specs.Fine.{most_fuel};
 ghost use Rattle.slot_picks.specs.Lives.{chains_of};
 ghost use Rattle.page_load.specs.Homes.{fuels_of, names_of};
 ghost use Rattle.page_load.specs.Loads.{HaveFewFuel, LoadsPage, singles};

@@ -9,7 +9,7 @@ ghost use Rattle.page_load.specs.Queues.{IsQueued, IsScriptIn, go_works, librari
 use crate::opening::handed;
 use code_units::Memory;
 use js_names::Code;
-use life_queue::{Script, Work};
+use slot_picks::{Script, Work};
 use std::alloc::Global;
 use std::collections::VecDeque;
 

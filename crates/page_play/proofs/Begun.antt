@@ -6,7 +6,7 @@ use Rattle.adsafe_rules.specs.declared.accepted.Accepted.{Accepted}
 use Rattle.trace_reader.specs.Said.{Said, an_event, an_advance, a_swap}
 use Rattle.widget_meaning.specs.Alone.{Content}
 use Rattle.widget_meaning.specs.Items.{Item}
-use Rattle.round_laws.specs.Fed.{Fed}
+use Rattle.life_laws.specs.Fed.{Fed}
 use Rattle.page_plan.specs.declared.PageSpec.{PageSpec}
 use Rattle.page_plan.specs.declared.SlotContent.{SlotContent}
 use Rattle.page_plan.specs.declared.SlotSpec.{SlotSpec}

@@ -1,6 +1,6 @@
 -- The lives of a host are born.
 use Rattle.std.proofs.Common.{◌≡◌, false}
-use Rattle.slot_laws.specs.Chains.{Chains}
+use Rattle.life_laws.specs.Chains.{Chains}
 use Rattle.widget_host.specs.declared.host.Host.{Host}
 use Rattle.widget_host.specs.Housed.{IsHoused, chains, homes, marked, newborn}
 

@@ -1,10 +1,10 @@
 -- The lives of slots: the first ones of a page, with one more, and the last ones alone.
 use Rattle.std.proofs.Common.{◌≡◌, ◌≢◌, ℕ, zero, suc, ◌+◌, ◌<◌, ◌≤◌, List, [], ◌∷◌, ◌++◌, map, length, Bool, true, false, refl, sym, ap, subst, ◌∙◌, arith, eq-eqb}
 use Rattle.std.specs.Prelude.{nat_eq, if◌then◌else◌, ◌||◌}
-use Rattle.pick_laws.specs.Journal.{on_at}
-use Rattle.slot_laws.specs.Slots.{Each, has}
-use Rattle.slot_laws.specs.Chains.{Chains, joins, last_at, last_from, last_life, listed}
-use Rattle.slot_laws.proofs.Passing.{has_append}
+use Rattle.life_laws.specs.Journal.{on_at}
+use Rattle.life_laws.specs.Slots.{Each, has}
+use Rattle.life_laws.specs.Chains.{Chains, joins, last_at, last_from, last_life, listed}
+use Rattle.life_laws.proofs.Passing.{has_append}
 use Rattle.widget_host.specs.Housed.{singles}
 use Rattle.widget_host.specs.Rounds.{is_last}
 

@@ -6,15 +6,15 @@ use Rattle.std.proofs.lemmas.List.Elements.{All-append, All-drop}
 use Rattle.trace_reader.specs.Said.{Said}
 use Rattle.turn_sched.specs.declared.chooser.Ask.{Ask}
 use Rattle.turn_sched.specs.Turns.{TakeTurns}
-use Rattle.pick_laws.specs.declared.entry.PickEntry.{PickEntry}
-use Rattle.pick_laws.specs.declared.entry.Picked.{Picked}
-use Rattle.pick_laws.specs.declared.entry.Picked.TheVariants as picked
-use Rattle.pick_laws.specs.Journal.{entry_of, journal_after, journal_room, kept, ready_from}
-use Rattle.pick_laws.specs.PickLaws.{page_slots}
-use Rattle.slot_laws.specs.Slots.{has}
-use Rattle.slot_laws.specs.Chains.{last_at, last_life, listed}
-use Rattle.slot_laws.specs.Settled.{PickedOn, SettledSlots, slot_flags}
-use Rattle.round_laws.specs.Fed.{Fed, RoundsTo, state}
+use Rattle.life_laws.specs.declared.entry.PickEntry.{PickEntry}
+use Rattle.life_laws.specs.declared.entry.Picked.{Picked}
+use Rattle.life_laws.specs.declared.entry.Picked.TheVariants as picked
+use Rattle.life_laws.specs.Journal.{entry_of, journal_after, journal_room, kept, ready_from}
+use Rattle.life_laws.specs.PickLaws.{page_slots}
+use Rattle.life_laws.specs.Slots.{has}
+use Rattle.life_laws.specs.Chains.{last_at, last_life, listed}
+use Rattle.life_laws.specs.Settled.{PickedOn, SettledSlots, slot_flags}
+use Rattle.life_laws.specs.Fed.{Fed, RoundsTo, state}
 use Rattle.page_plan.specs.declared.PageSpec.{PageSpec}
 use Rattle.page_plan.specs.declared.SlotContent.{SlotContent}
 use Rattle.page_plan.specs.Pages.{piece_of}

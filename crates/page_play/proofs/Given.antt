@@ -7,12 +7,12 @@ use Rattle.std.proofs.lemmas.List.{length_push}
 use Rattle.trace_reader.specs.Said.{Said, a_swap}
 use Rattle.js_tree.specs.declared.tree.Tree.{Tree}
 use Rattle.life_laws.specs.Life.{Seen, image}
-use Rattle.pick_laws.specs.Journal.{on_at}
-use Rattle.slot_laws.specs.Slots.{has}
-use Rattle.slot_laws.specs.Chains.{Chains, joins, last_at, last_life, listed}
+use Rattle.life_laws.specs.Journal.{on_at}
+use Rattle.life_laws.specs.Slots.{has}
+use Rattle.life_laws.specs.Chains.{Chains, joins, last_at, last_life, listed}
 use Rattle.widget_meaning.specs.OwnState.{OwnState}
 use Rattle.widget_meaning.specs.Alone.{Content}
-use Rattle.round_laws.specs.Fed.{Fed}
+use Rattle.life_laws.specs.Fed.{Fed}
 use Rattle.page_plan.specs.declared.PageSpec.{PageSpec}
 use Rattle.page_plan.specs.declared.SlotContent.{SlotContent}
 use Rattle.page_plan.specs.declared.SlotSpec.{SlotSpec}

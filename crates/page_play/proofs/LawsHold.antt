@@ -3,7 +3,7 @@ use Rattle.std.proofs.Common.{◌≡◌, ◌<◌, ◌+◌, ℕ, List, [], ◌∷
 use Rattle.std.proofs.lemmas.List.{length-map}
 use Rattle.trace_reader.specs.Said.{Said}
 use Rattle.slot_check.specs.Sources.{Source}
-use Rattle.round_laws.specs.Fed.{RoundsTo}
+use Rattle.life_laws.specs.Fed.{RoundsTo}
 use Rattle.page_plan.specs.declared.PageSpec.{PageSpec}
 use Rattle.page_plan.specs.declared.SlotContent.{SlotContent}
 use Rattle.page_check.specs.Runs.{SlotRun}

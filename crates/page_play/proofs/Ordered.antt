@@ -6,15 +6,15 @@ use Rattle.code_units.specs.declared.owner.TheConstants.{WIDGETS}
 use Rattle.life_laws.specs.Life.{Seen, due, ready}
 use Rattle.turn_sched.specs.declared.chooser.Ask.{Ask}
 use Rattle.turn_sched.specs.Turns.{TakeTurns}
-use Rattle.pick_laws.specs.declared.entry.PickEntry.{PickEntry}
-use Rattle.pick_laws.specs.Journal.{journal_room, kept, keeps, ready_from}
-use Rattle.pick_laws.specs.Asked.{Entries, with_entry, was_idle, Chosen, ready_at}
-use Rattle.pick_laws.specs.Order.{InOrder}
-use Rattle.pick_laws.specs.PickLaws.{page_slots}
-use Rattle.pick_laws.proofs.LawsHold.{order_law}
-use Rattle.slot_laws.specs.Slots.{slot_ready}
-use Rattle.slot_laws.specs.Settled.{flag, slot_flags, homed, SettledSlots}
-use Rattle.slot_laws.proofs.Settling.{flags_length}
+use Rattle.life_laws.specs.declared.entry.PickEntry.{PickEntry}
+use Rattle.life_laws.specs.Journal.{journal_room, kept, keeps, ready_from}
+use Rattle.life_laws.specs.Asked.{Entries, with_entry, was_idle, Chosen, ready_at}
+use Rattle.life_laws.specs.Order.{InOrder}
+use Rattle.life_laws.specs.PickLaws.{page_slots}
+use Rattle.life_laws.proofs.PicksHold.{order_law}
+use Rattle.life_laws.specs.Slots.{slot_ready}
+use Rattle.life_laws.specs.Settled.{flag, slot_flags, homed, SettledSlots}
+use Rattle.life_laws.proofs.SlotsSettling.{flags_length}
 
 -- ## Slots as lives that are ready or not
 

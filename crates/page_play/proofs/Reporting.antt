@@ -6,7 +6,7 @@ use Rattle.std.specs.declared.vec.Vec.{Vec}
 use Rattle.page_output.specs.Printing.{Prints}
 use Rattle.trace_reader.specs.Said.{Said}
 use Rattle.slot_check.specs.Sources.{Source}
-use Rattle.slot_laws.specs.Chains.{last_life}
+use Rattle.life_laws.specs.Chains.{last_life}
 use Rattle.widget_meaning.specs.OwnState.{OwnState}
 use Rattle.reach_cert.specs.Certs.{Slot, cert_text}
 use Rattle.manifest_reader.specs.Page.{Part}
@@ -14,7 +14,7 @@ use Rattle.page_plan.specs.declared.PageSpec.{PageSpec}
 use Rattle.page_plan.specs.declared.SlotContent.{SlotContent}
 use Rattle.page_plan.specs.Pages.{PagePiece, page_of, piece_of, roots}
 use Rattle.page_check.specs.Runs.{SlotRun, pieces}
-use Rattle.state_reach.specs.States.{cert_of_states}
+use Rattle.widget_host.specs.States.{cert_of_states}
 use Rattle.slot_lives.specs.Ends.{run_name, end_of}
 use Rattle.slot_lives.specs.Outcome.{IsReport}
 use Rattle.widget_host.specs.declared.host.Host.{Host}

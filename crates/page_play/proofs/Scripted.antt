@@ -8,7 +8,7 @@ use Rattle.js_tree.specs.Trees.{program_of}
 use Rattle.adsafe_rules.specs.declared.accepted.Accepted.{Accepted}
 use Rattle.adsafe_rules.specs.Accepts.{tree_of}
 use Rattle.widget_meaning.specs.Alone.{Content}
-use Rattle.round_laws.specs.Fed.{Fed}
+use Rattle.life_laws.specs.Fed.{Fed}
 use Rattle.page_plan.specs.declared.SlotContent.{SlotContent}
 use Rattle.page_plan.specs.declared.SlotContent.TheVariants as slot
 use Rattle.page_plan.specs.Contents.{content_of, program_at}

@@ -8,7 +8,7 @@ use Rattle.trace_text.specs.declared.line.RunText.{RunText}
 use Rattle.trace_text.specs.Report.{run_members, ran_life, short_life, state_name, refused_life}
 use Rattle.slot_check.specs.declared.fault.Refusal.{Refusal}
 use Rattle.life_laws.specs.Life.{Seen, image}
-use Rattle.slot_laws.specs.Chains.{listed}
+use Rattle.life_laws.specs.Chains.{listed}
 use Rattle.widget_meaning.specs.OwnState.{OwnState}
 use Rattle.slot_lives.specs.Lines.{life_line, short_line, state_word}
 use Rattle.widget_host.specs.declared.host.Host.{Host}

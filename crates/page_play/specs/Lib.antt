@@ -6,6 +6,7 @@ pub use Rattle.widget_host.specs.Housed
 pub use Rattle.widget_host.specs.Place
 pub use Rattle.widget_host.specs.Places
 pub use Rattle.widget_host.specs.Rounds
+pub use Rattle.widget_host.specs.States
 pub mod Swaps
 pub mod Findings
 pub mod Played

@@ -6,11 +6,11 @@ use Rattle.adsafe_rules.specs.declared.accepted.Accepted.{Accepted}
 use Rattle.trace_reader.specs.Items.{longest_advance}
 use Rattle.trace_reader.specs.Said.{Said, an_event, an_advance, a_swap}
 use Rattle.widget_meaning.specs.Alone.{Content}
-use Rattle.round_laws.specs.Fed.{Fed, RoundsTo}
-use Rattle.slot_laws.specs.Slots.{has}
-use Rattle.pick_laws.specs.Journal.{ready_from}
-use Rattle.slot_laws.specs.Chains.{last_at, last_life, listed}
-use Rattle.slot_laws.specs.Settled.{slot_flags}
+use Rattle.life_laws.specs.Fed.{Fed, RoundsTo}
+use Rattle.life_laws.specs.Slots.{has}
+use Rattle.life_laws.specs.Journal.{ready_from}
+use Rattle.life_laws.specs.Chains.{last_at, last_life, listed}
+use Rattle.life_laws.specs.Settled.{slot_flags}
 use Rattle.page_plan.specs.declared.PageSpec.{PageSpec}
 use Rattle.page_plan.specs.declared.SlotContent.{SlotContent}
 use Rattle.page_plan.specs.declared.SlotSpec.{SlotSpec}

@@ -5,8 +5,8 @@ use Rattle.trace_reader.specs.Items.{longest_advance}
 use Rattle.trace_reader.specs.Said as said
 use Rattle.trace_reader.specs.Said.{Said}
 use Rattle.life_laws.specs.Life.{Seen, image}
-use Rattle.slot_laws.specs.Slots.{has}
-use Rattle.slot_laws.specs.Chains.{last_at, listed}
+use Rattle.life_laws.specs.Slots.{has}
+use Rattle.life_laws.specs.Chains.{last_at, listed}
 use Rattle.page_plan.specs.declared.PageSpec.{PageSpec}
 use Rattle.page_plan.specs.declared.SlotContent.{SlotContent}
 use Rattle.page_plan.specs.declared.SlotSpec.{SlotSpec}

@@ -2,11 +2,11 @@
 use Rattle.std.specs.Prelude.{◌≡◌, ◌<◌, ℕ, List, [], ◌∷◌, ◌++◌, All, length, map, slice_get, true, false, Some, None}
 use Rattle.trace_reader.specs.Said.{Said, an_event, an_advance, a_swap}
 use Rattle.life_laws.specs.Life.{Seen, image}
-use Rattle.pick_laws.specs.declared.entry.PickEntry.{PickEntry}
-use Rattle.pick_laws.specs.Journal.{ready_from, journal_room}
-use Rattle.pick_laws.specs.Order.{InOrder}
-use Rattle.slot_laws.specs.Chains.{last_life}
-use Rattle.slot_laws.specs.Settled.{PickedOn, slot_flags}
+use Rattle.life_laws.specs.declared.entry.PickEntry.{PickEntry}
+use Rattle.life_laws.specs.Journal.{ready_from, journal_room}
+use Rattle.life_laws.specs.Order.{InOrder}
+use Rattle.life_laws.specs.Chains.{last_life}
+use Rattle.life_laws.specs.Settled.{PickedOn, slot_flags}
 use Rattle.page_plan.specs.declared.PageSpec.{PageSpec}
 use Rattle.page_plan.specs.declared.SlotContent.{SlotContent}
 use Rattle.slot_lives.specs.Lives.{swaps_in}

@@ -12,7 +12,7 @@ use Rattle.page_plan.specs.declared.SlotContent.{SlotContent}
 use Rattle.page_plan.specs.Pages.{PagePiece, page_of, roots}
 use Rattle.page_check.specs.Runs.{SlotRun}
 use Rattle.reach_cert.specs.Certs.{cert_text}
-use Rattle.state_reach.specs.States.{cert_of_states}
+use Rattle.widget_host.specs.States.{cert_of_states}
 use Rattle.slot_lives.specs.Ends.{AllBegin, run_name}
 use Rattle.slot_lives.specs.Lives.{ended_lives}
 use Rattle.slot_lives.specs.Outcome.{Outcome, all_lives, last_lives}

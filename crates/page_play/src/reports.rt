@@ -3,8 +3,8 @@ ghost use Rattle.std.specs.Prelude.{◌≡◌, ◌++◌, ◌<◌, ℕ, List, [],
 ghost use Rattle.trace_text.specs.Report.{line_text};
 ghost use Rattle.trace_reader.specs.Said.{Said};
 ghost use Rattle.slot_check.specs.Sources.{Source};
-ghost use Rattle.pick_laws.specs.Journal.{ready_from};
-ghost use Rattle.slot_laws.specs.Settled.{slot_flags};
+ghost use Rattle.life_laws.specs.Journal.{ready_from};
+ghost use Rattle.life_laws.specs.Settled.{slot_flags};
 ghost use Rattle.widget_meaning.specs.OwnState.{OwnState};
 ghost use Rattle.manifest_reader.specs.Page.{Part};
 ghost use Rattle.page_plan.specs.declared.PageSpec.{PageSpec};

@@ -1,5 +1,6 @@
 //! Calls of single parts.
 use crate::answer::Answer;
+use crate::cases::{bytes_of, text_at};
 use crate::choosers::answer_of_chooser;
 use crate::line_calls::answer_of_line;
 use crate::loop_calls::answer_of_loop;
@@ -10,7 +11,6 @@ use crate::store_calls::answer_of_store;
 use crate::text_calls::answer_of_text;
 use serde_json::Value;
 use std::alloc::Global;
-use test_cases::{bytes_of, text_at};
 
 /// What comes of a call: `call` says what is called, and `of` on what. Else `markup` is a piece of a
 /// page, and `call` a query on it.

@@ -3,11 +3,11 @@ ghost use Rattle.std.specs.Prelude.{◌<◌, length};
 ghost use Rattle.reach_cert.specs.Certs.{cert_lines, plain};
 
 use crate::answer::{Answer, push_answer};
+use crate::cases::{bytes_of, text_at};
 use reach_cert::{Cert, CertFault, confined, read_cert};
 use serde_json::Value;
 use std::alloc::Global;
 use std::fmt::Write;
-use test_cases::{bytes_of, text_at};
 
 // The most bytes of a case.
 const MOST_BYTES: usize = 65_536;

@@ -1,11 +1,12 @@
 //! Cases of single parts: the tokens of scripts and their trees as text, the printed text of markup and
 //! styles, whether queries, manifests and traces are read, and where each text is refused; what calls of
 //! single parts give; and whether texts are certificates of reach, and confined. A case is a line with a
-//! JSON object (crate `test_cases`); its name stands before what is written of it.
+//! JSON object (module `cases`, which other tables read theirs by); its name stands before what is written of it.
 #![tactic(auto)]
 
 mod answer;
 mod calls;
+mod cases;
 mod certificates;
 mod choosers;
 mod line_calls;
@@ -21,6 +22,7 @@ mod text_calls;
 
 use answer::{Answer, push_answer};
 use calls::answer_of_call;
+pub use cases::{bytes_of, list_at, text_at};
 pub use certificates::verdicts;
 use keyed_names::Keys;
 use markup::{answer_of_markup, answer_of_query, answer_of_style};
@@ -29,7 +31,6 @@ use serde_json::Value;
 use shapes::{answer_of_manifest, answer_of_trace};
 use std::alloc::Global;
 use std::fmt::Write;
-use test_cases::{bytes_of, text_at};
 
 /// What is asked of a case: of its text, or of a call.
 #[derive(Clone, Copy)]

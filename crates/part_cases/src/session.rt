@@ -3,7 +3,7 @@ ghost use Rattle.std.specs.Prelude.{◌<◌, ◌^◌, length};
 
 use crate::answer::Answer;
 use code_units::Text;
-use line_io::{Lines, MemLines, RealLines};
+use host_io::{Lines, MemLines, RealLines};
 use live_text::{Request, RequestFault, read_request};
 use std::alloc::Global;
 use std::fmt::Write;

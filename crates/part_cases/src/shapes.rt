@@ -1,10 +1,10 @@
 //! Manifests and traces: whether they are read, or at which item they are refused.
 use crate::answer::Answer;
+use crate::cases::{bytes_of, list_at};
 use code_units::{Text, from_utf8_bytes};
 use manifest_reader::read_manifest;
 use serde_json::Value;
 use std::alloc::Global;
-use test_cases::{bytes_of, list_at};
 use trace_reader::{ShapeFault, read_trace};
 
 /// What comes of reading a manifest.

@@ -1,11 +1,11 @@
 //! Calls on texts and names.
 use crate::answer::{Answer, text_answer};
+use crate::cases::bytes_of;
 use crate::keys;
 use code_units::{Text, TextFault, WholeRead, from_utf8_bytes, push_utf8, read_whole, whole_text};
 use keyed_names::Names;
 use serde_json::Value;
 use std::alloc::Global;
-use test_cases::bytes_of;
 
 /// What a call on the text of a case gives.
 pub fn answer_of_text(alloc: Global, call: &str, case: &Value) -> Option<Answer> {

@@ -1,1 +1,3 @@
 pub mod Staying
+pub mod First
+pub mod Tasks

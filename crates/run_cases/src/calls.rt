@@ -11,10 +11,10 @@ ghost use Rattle.run_cases.specs.Ready.{IsReady};
 use crate::hosts::{Hosted, host_of, number_at};
 use crate::journals::{journal_of, wanted_journal};
 use adhost_run::{Host, HostItem};
-use pick_laws::Picked;
+use life_laws::Picked;
+use part_cases::list_at;
 use serde_json::Value;
 use std::alloc::Global;
-use test_cases::list_at;
 use turn_sched::Listed;
 
 // The most items that a host may be given, and the longest advance.

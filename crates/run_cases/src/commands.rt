@@ -1,5 +1,5 @@
 //! Command lines over files and a sink in memory, some of whose reads and writes fail. A case is a
-//! JSON object (crate `test_cases`):
+//! JSON object (crate `part_cases`):
 //!
 //! - `words` and `files`, the text of each by its name; a file that is not there is missing
 //! - `fail_reads` and `fail_writes`, where there are any: the numbers of the calls that fail, from 1
@@ -12,9 +12,9 @@ use crate::journals::{journal_of, wanted_journal};
 use crate::lines::has_lines;
 use adhost_run::{Host, run};
 use host_io::{MemFiles, MemSink};
+use part_cases::{bytes_of, list_at};
 use serde_json::Value;
 use std::alloc::Global;
-use test_cases::{bytes_of, list_at};
 
 // The bytes that a sink may take in all, where a case does not say.
 const ROOM: u64 = 1_000_000;

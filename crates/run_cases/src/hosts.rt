@@ -1,4 +1,4 @@
-//! Hosts of cases. A case is a JSON object (crate `test_cases`):
+//! Hosts of cases. A case is a JSON object (crate `part_cases`):
 //!
 //! - `files`: the text of each file by its name, among them the manifest `m.json` of the page
 //! - `swap`: a slot, and the file that a swap brings into it
@@ -16,11 +16,11 @@ use keyed_names::Keys;
 use manifest_reader::Manifest;
 use page_check::{judge_page, read_manifests_fit};
 use page_plan::{PageSpec, SlotContent};
+use part_cases::list_at;
 use run_steps::{FILE_LIMIT, files_of, manifest_in, read_file, slot_names};
 use serde_json::Value;
 use slot_check::SourceFile;
 use std::alloc::Global;
-use test_cases::list_at;
 
 /// A host on which calls are made: how many slots it has and how many items it was given; and a swap that it
 /// was not given yet, the slot and what comes into it.

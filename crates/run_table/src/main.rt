@@ -1,7 +1,6 @@
 //! Writes what comes of the cases in the files of data/, which the gate compares with the file `stdout`:
-//! whether command lines and calls of hosts end as is wanted (crate `run_cases`), whether calls of frames
-//! and of tasks give what is wanted (crate `step_cases`), and what texts and calls of single parts give
-//! (crate `part_cases`).
+//! whether command lines and calls of hosts, of frames and of tasks end as is wanted (crate `run_cases`),
+//! and what texts and calls of single parts give (crate `part_cases`).
 #![tactic(auto)]
 
 mod real_files;
@@ -9,8 +8,8 @@ mod real_files;
 use anyhow::{Result, bail};
 use part_cases::{Question, answers, verdicts};
 use real_files::are_real_files_read;
+use run_cases::{Answer, ends_as_answered, gives_pushed_frame, unwinds_to_the_end};
 use std::fs;
-use step_cases::{Answer, ends_as_answered, gives_pushed_frame, unwinds_to_the_end};
 
 // Command lines and calls of hosts.
 const RUNS: [&str; 13] = [

@@ -8,9 +8,9 @@ use Rattle.widget_meaning.specs.OwnState.{OwnState}
 use Rattle.widget_meaning.specs.Items.{Item}
 use Rattle.widget_meaning.specs.Alone.{alone}
 use Rattle.post_rounds.specs.News.{news}
-use Rattle.round_laws.specs.Fed.{Fed, RoundsTo, again, ended, event_of, fed_on, fresh, round}
-use Rattle.round_laws.proofs.Rounding.{after_round}
-use Rattle.round_laws.proofs.Ending.{no_channels}
+use Rattle.life_laws.specs.Fed.{Fed, RoundsTo, again, ended, event_of, fed_on, fresh, round}
+use Rattle.life_laws.proofs.Rounding.{after_round}
+use Rattle.life_laws.proofs.Ending.{no_channels}
 use Rattle.page_check.specs.Runs.{SlotRun, with_file}
 use Rattle.page_check.proofs.OneWidget.{widget_once, never_refused}
 use Rattle.slot_lives.specs.Lives.{Life, last_life}

@@ -1,3 +1,10 @@
+pub mod Signs
+pub mod Texts
+pub mod Chars
+pub mod Parts
+pub mod Law
+pub mod Forms
+mod Examples
 pub mod Cuts
 pub mod Growing
 pub mod Alike
@@ -7,3 +14,6 @@ pub mod Naming
 pub mod OneOutcome
 pub mod Ending
 pub mod Agreeing
+pub mod Twins
+pub mod Lived
+pub mod Paged

@@ -3,15 +3,15 @@ use Rattle.std.proofs.Common.{◌≡◌, ℕ, List, [], ◌∷◌, ◌++◌, map
 use Rattle.code_units.specs.Places.{place_at as place}
 use Rattle.plain_tree.specs.Trees.{PlainTrees}
 use Rattle.page_output.specs.Printing.{Prints}
-use Rattle.markup_laws.proofs.Forms.{has_form}
+use Rattle.slot_lives.proofs.Forms.{has_form}
 use Rattle.trace_text.specs.Report.{refused_life, page_line}
 use Rattle.trace_reader.specs.Said.{Said}
 use Rattle.manifest_reader.specs.Page.{Part}
 use Rattle.slot_check.specs.Sources.{Source}
 use Rattle.slot_check.proofs.Firsts.{first_once}
 use Rattle.widget_meaning.specs.OwnState.{OwnState}
-use Rattle.round_laws.specs.Fed.{Fed, RoundsTo}
-use Rattle.round_laws.proofs.Ending.{one}
+use Rattle.life_laws.specs.Fed.{Fed, RoundsTo}
+use Rattle.life_laws.proofs.Ending.{one}
 use Rattle.page_plan.specs.Pages.{roots, page_of}
 use Rattle.page_check.specs.Runs.{SlotRun, pieces}
 use Rattle.page_check.proofs.OneWidget.{widget_once, never_refused}

@@ -7,7 +7,7 @@ use Rattle.slot_check.specs.Slot.{SlotFirst}
 use Rattle.widget_meaning.specs.OwnState.{OwnState}
 use Rattle.widget_meaning.specs.Items.{Item}
 use Rattle.widget_meaning.specs.Alone.{Content, alone}
-use Rattle.round_laws.specs.Fed.{Fed}
+use Rattle.life_laws.specs.Fed.{Fed}
 use Rattle.page_check.specs.Runs.{SlotRun}
 use Rattle.page_check.specs.Widgets.{HasWidget}
 use Rattle.slot_lives.specs.Lives.{Life, is_swap, swaps_in}

@@ -9,7 +9,7 @@ use Rattle.slot_check.specs.Sources.{Source}
 use Rattle.slot_check.specs.Slot.{SlotFirst}
 use Rattle.widget_meaning.specs.OwnState.{OwnState}
 use Rattle.widget_meaning.specs.Alone.{Content}
-use Rattle.round_laws.specs.Fed.{Fed, state}
+use Rattle.life_laws.specs.Fed.{Fed, state}
 use Rattle.page_check.specs.Runs.{SlotRun}
 use Rattle.page_check.specs.Widgets.{HasWidget}
 use Rattle.slot_lives.specs.Lives.{Life}

@@ -1,3 +1,4 @@
+pub mod Reading
 pub mod Lives
 pub mod LifeLaws
 pub mod OtherSlots
@@ -7,3 +8,4 @@ pub mod Ends
 pub mod Outcome
 pub mod EndLaws
 pub mod TwoPages
+pub mod Tidied

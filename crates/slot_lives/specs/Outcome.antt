@@ -6,7 +6,7 @@ use Rattle.trace_reader.specs.Said.{Said}
 use Rattle.manifest_reader.specs.Page.{Part}
 use Rattle.slot_check.specs.Sources.{Source}
 use Rattle.widget_meaning.specs.OwnState.{OwnState}
-use Rattle.round_laws.specs.Fed.{Fed, RoundsTo}
+use Rattle.life_laws.specs.Fed.{Fed, RoundsTo}
 use Rattle.page_plan.specs.Pages.{roots, page_of}
 use Rattle.page_check.specs.Runs.{SlotRun, pieces, with_file}
 use Rattle.slot_lives.specs.Lives.{Life, lives, last_life, ended_lives}

@@ -1,8 +1,8 @@
 -- The lives of slots, as the host has them.
 use Rattle.std.proofs.Common.{◌≡◌, ℕ, zero, suc, List, [], ◌∷◌, length, refl, ap, arith, Some}
 use Rattle.std.specs.Prelude.{slice_get, slice_set}
-use Rattle.slot_laws.specs.Chains.{Chains, IsChain}
-use Rattle.slot_laws.proofs.Housing.{chain_in}
+use Rattle.life_laws.specs.Chains.{Chains, IsChain}
+use Rattle.life_laws.proofs.Housing.{chain_in}
 use Rattle.slot_picks.specs.declared.slots.Slot.{Slot}
 use Rattle.slot_picks.specs.Lives.{chains_of}
 

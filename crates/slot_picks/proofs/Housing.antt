@@ -1,10 +1,10 @@
 -- What holds of lives and slots after a pick.
 use Rattle.std.proofs.Common.{◌≡◌, ℕ, zero, suc, List, [], ◌∷◌, ◌++◌, length, map, refl, sym, ap, ◌∙◌, subst, arith, Some}
 use Rattle.std.specs.Prelude.{slice_get, slice_set}
-use Rattle.pick_laws.specs.declared.entry.Picked.{Picked}
-use Rattle.slot_laws.specs.Chains.{Chains, PickedIn, last_from, last_life}
-use Rattle.slot_laws.proofs.Chaining.{rest_after}
-use Rattle.slot_laws.proofs.Housing.{chains_picked, unspent_picked}
+use Rattle.life_laws.specs.declared.entry.Picked.{Picked}
+use Rattle.life_laws.specs.Chains.{Chains, PickedIn, last_from, last_life}
+use Rattle.life_laws.proofs.Chaining.{rest_after}
+use Rattle.life_laws.proofs.Housing.{chains_picked, unspent_picked}
 use Rattle.slot_picks.specs.declared.lives.Lives.{Lives}
 use Rattle.slot_picks.specs.declared.slots.Slot.{Slot}
 use Rattle.slot_picks.specs.Lives.{AreHoused, FineLives, chains_of, seens_of}

@@ -1,3 +1,4 @@
+pub use Rattle.life_queue.proofs.Apart
 mod Others
 mod Owning
 mod Presence
@@ -8,9 +9,20 @@ pub mod Slotted
 mod Taking
 mod Picking
 mod Spending
-mod Looping
+mod Following
 mod Chained
 mod Housing
 mod Settles
 mod Quiet
 mod Busy
+pub mod More
+pub mod Feeding
+pub mod Untold
+pub mod Queues
+pub mod Lasts
+pub mod Rounds
+pub mod Gathering
+pub mod Seen
+pub mod Taken
+pub mod Sound
+pub mod Looping

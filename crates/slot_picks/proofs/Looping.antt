@@ -1,149 +1,104 @@
--- The loop over the lives of a slot.
-use Rattle.std.proofs.Common.{◌≡◌, ◌≢◌, ℕ, zero, suc, ◌<◌, List, [], ◌∷◌, ◌++◌, length, Bool, true, false, sym, ap, ◌∙◌, subst, arith, Some, None, drop, refl, lt-ltb, eq-eqb}
-use Rattle.std.specs.Prelude.{slice_get, slice_index_or, slice_set, nat_eq, nat_lt, if◌then◌else◌}
-use Rattle.life_laws.specs.Life.{Seen}
-use Rattle.pick_laws.specs.declared.entry.PickEntry.{PickEntry}
-use Rattle.pick_laws.specs.declared.entry.Picked.{Picked}
-use Rattle.pick_laws.specs.declared.entry.Picked.TheVariants as picked
-use Rattle.pick_laws.specs.Journal.{Kept, journal_after, on_at}
-use Rattle.slot_laws.specs.Chains.{Chains, IsChain}
-use Rattle.slot_laws.specs.Slots.{Each, has, Passed, PickedSlot, Rising}
-use Rattle.slot_laws.proofs.Housing.{chain_in}
-use Rattle.slot_laws.proofs.Chaining.{out_of}
-use Rattle.slot_laws.proofs.Passing.{each_mid, has_append, passed_on, slot_picked}
-use Rattle.slot_picks.specs.declared.lives.Lives.{Lives}
-use Rattle.slot_picks.specs.declared.slots.Slot.{Slot}
-use Rattle.slot_picks.specs.Lives.{KeepsBeside, chains_of, seens_of}
-use Rattle.slot_picks.proofs.Chained.{chains_length}
+-- Settling and rounds, one after the other.
+use Rattle.std.proofs.Common.{◌≡◌, ℕ, zero, suc, Bool, true, false, List, [], ◌∷◌, ◌++◌, map, refl, sym, ap, ◌∙◌, arith, Option, Some, None}
+use Rattle.std.specs.Prelude.{slice_get, nat_eq, if◌then◌else◌, ◌||◌}
+use Rattle.std.specs.Option.{option_map}
+use Rattle.life_laws.specs.Life.{Seen, due, image}
+use Rattle.life_laws.specs.Chains.{last_life}
+use Rattle.life_laws.specs.Fed.{Fed}
+use Rattle.slot_picks.specs.Feeding.{AreFed, AreShown, IsLastFed, IsLastShown, events_for, gets, given_events, is_last, with_more}
+use Rattle.slot_picks.proofs.More.{given_none, more_at, some_is}
 
-pub present_is : (ds cur : List ℕ) (v : ℕ) → ds ≡ cur → slice_get ds 0 ≡ Some v → cur ≡ v ∷ drop 1 cur
-present_is ds [] v e f = let g : slice_get ds 0 ≡ None = ap (λ xs. slice_get xs 0) e in cc
-present_is ds (x ∷ xs) v e f = let g : slice_get ds 0 ≡ Some x = ap (λ ys. slice_get ys 0) e in let same : x ≡ v = cc in ap (λ u. u ∷ xs) same
+-- what two lists show in the same way, by number
+map_at : {A B : Type 0} (f g : A → B) (xs ys : List A) (v : ℕ) (y : A) → map f xs ≡ map g ys → slice_get ys v ≡ Some y → (x : A) × (slice_get xs v ≡ Some x) × (f x ≡ g y)
+map_at f g xs [] v y e at = cc
+map_at f g [] (z ∷ ys) v y e at = cc
+map_at f g (x ∷ xs) (z ∷ ys) zero y e at = (x, refl, heads f g x z xs ys e ∙ ap g (some_is z y at))
+  where
+    heads : {A B : Type 0} (f g : A → B) (x z : A) (xs ys : List A) → map f (x ∷ xs) ≡ map g (z ∷ ys) → f x ≡ g z
+    heads f g x z xs ys e = cc
+map_at f g (x ∷ xs) (z ∷ ys) (suc v) y e at = map_at f g xs ys v y (tails f g x z xs ys e) at
+  where
+    tails : {A B : Type 0} (f g : A → B) (x z : A) (xs ys : List A) → map f (x ∷ xs) ≡ map g (z ∷ ys) → map f xs ≡ map g ys
+    tails f g x z xs ys e = cc
 
-pub is_there : (P : ℕ → Type 0) (lives ended cur rest : List ℕ) (v : ℕ) → Each P lives → lives ≡ ended ++ cur → cur ≡ v ∷ rest → P v
-is_there P lives ended cur rest v h e f = let Q : List ℕ → Type 0 = λ xs. Each P xs in each_mid P ended v rest (subst Q (e ∙ ap (λ xs. ended ++ xs) f) h)
+-- a settled host shows what was to come
+pub settled_shows : (ss ts : List Seen) → map image ts ≡ map due ss → map due ts ≡ map due ss → (v : ℕ) (s : Seen) → slice_get ts v ≡ Some s → image s ≡ due s
+settled_shows ss ts images dues v s at =
+    let x = map_at due image ss ts v s (sym images) at in
+    let y = map_at due due ss ts v s (sym dues) at in
+    let same : x.0 ≡ y.0 = some_is x.0 y.0 (sym x.1 ∙ y.1) in
+    sym x.2 ∙ (ap due same ∙ y.2)
 
-pub slot_done : (k : ℕ) (r : Picked) (lives : List ℕ) (old mid new : List Seen) (js is ks : List PickEntry) (cur : List ℕ) (v : ℕ) → Rising lives → Passed lives old mid js cur → cur ≡ v ∷ drop 1 cur → is ≡ js → Kept v k r mid new is ks → (r ≡ picked.Idle → drop 1 cur ≡ []) → PickedSlot k r lives old new js ks cur
-slot_done k r lives old mid new js is ks cur v rising h e f p last =
-    let P : List ℕ → Type 0 = λ xs. Passed lives old mid js xs in
-    let Q : List ℕ → Type 0 = λ xs. PickedSlot k r lives old new js ks xs in
-    let R : List PickEntry → Type 0 = λ xs. Kept v k r mid new xs ks in
-    subst Q (sym e) (slot_picked k r lives old mid new js ks v (drop 1 cur) rising (subst P e h) (subst R f p) last)
+module _ (accepts accepts' : ℕ → Bool) (same : (v : ℕ) → accepts' v ≡ accepts v) (ss ts : List Seen) (told told' : List ℕ) (dues : map due ts ≡ map due ss) (taken : told' ≡ told) where
+  last_stays : (v : ℕ) (f : Option Fed) → IsLastFed accepts ss told v f → IsLastFed accepts' ts told' v f
+  last_stays v None h = same v ∙ h
+  last_stays v (Some f) h = record {
+    accepted = same v ∙ h.accepted;
+    comes = λ t at. let s = map_at due due ss ts v t (sym dues) at in sym s.2 ∙ h.comes s.0 s.1;
+    taken = ap (λ ns. slice_get ns v) taken ∙ h.taken;
+  }
 
-pub slot_on : (k : ℕ) (r : Picked) (lives : List ℕ) (old mid new : List Seen) (js is ks : List PickEntry) (cur next : List ℕ) (v : ℕ) → Rising lives → Passed lives old mid js cur → cur ≡ v ∷ drop 1 cur → is ≡ js → Kept v k r mid new is ks → r ≡ picked.Idle → ks ≡ is → next ≡ drop 1 cur → Passed lives old new js next
-slot_on k r lives old mid new js is ks cur next v rising h e f p i same n =
-    let P : List ℕ → Type 0 = λ xs. Passed lives old mid js xs in
-    let Q : List ℕ → Type 0 = λ xs. Passed lives old new js xs in
-    let R : List PickEntry → Type 0 = λ xs. Kept v k r mid new xs ks in
-    subst Q (sym n) (passed_on k r lives old mid new js ks v (drop 1 cur) rising (subst P e h) (subst R f p) i (same ∙ f))
+  -- where what is to come stays, lives were given the same
+  pub fed_stays : (cs : List (List ℕ)) (fs : List (Option Fed)) → AreFed accepts ss told cs fs → AreFed accepts' ts told' cs fs
+  fed_stays [] [] h = tt
+  fed_stays [] (f ∷ fs) h = absurd h
+  fed_stays (c ∷ cs) [] h = absurd h
+  fed_stays (c ∷ cs) (f ∷ fs) h = (last_stays (last_life c) f h.0, fed_stays cs fs h.1)
 
-pub same_journal : (r : Picked) (e : PickEntry) (js ks : List PickEntry) → r ≡ picked.Idle → ks ≡ journal_after r e js → ks ≡ js
-same_journal r e js ks i h = h ∙ ap (λ x. journal_after x e js) i
+-- the last lives alone are asked for
+pub fed_lasts : (accepts : ℕ → Bool) (ss : List Seen) (told : List ℕ) (cs : List (List ℕ)) (fs : List (Option Fed)) → AreFed accepts ss told cs fs → AreFed accepts ss told (map (λ c. last_life c ∷ []) cs) fs
+fed_lasts accepts ss told [] [] h = tt
+fed_lasts accepts ss told [] (f ∷ fs) h = absurd h
+fed_lasts accepts ss told (c ∷ cs) [] h = absurd h
+fed_lasts accepts ss told (c ∷ cs) (f ∷ fs) h = (h.0, fed_lasts accepts ss told cs fs h.1)
 
--- ## The lives of a slot
+-- ## What lives show
 
--- the lives of the slot with a number
-abbrev pub lives_at : ℕ → List Slot → List ℕ
-lives_at w ss = slice_index_or (chains_of ss) w []
+module _ (accepts : ℕ → Bool) (ss : List Seen) (told : List ℕ) (shown : (v : ℕ) (s : Seen) → slice_get ss v ≡ Some s → image s ≡ due s) where
+  shown_is : (v : ℕ) (f : Option Fed) → IsLastFed accepts ss told v f → IsLastShown accepts ss v f
+  shown_is v None h = h
+  shown_is v (Some f) h = (h.accepted, λ s at. shown v s at ∙ h.comes s at)
 
-pub lives_here : (w : ℕ) (ss : List Slot) (s : Slot) → slice_get ss w ≡ Some s → lives_at w ss ≡ s.lives.items
-lives_here w [] s e = cc
-lives_here zero (x ∷ ss) s e = let same : x ≡ s = cc in ap (λ (y : Slot). y.lives.items) same
-lives_here (suc w) (x ∷ ss) s e = lives_here w ss s e
+  -- a life that has done all shows what it was given
+  pub shown_all : (cs : List (List ℕ)) (fs : List (Option Fed)) → AreFed accepts ss told cs fs → AreShown accepts ss cs fs
+  shown_all [] [] h = tt
+  shown_all [] (f ∷ fs) h = absurd h
+  shown_all (c ∷ cs) [] h = absurd h
+  shown_all (c ∷ cs) (f ∷ fs) h = (shown_is (last_life c) f h.0, shown_all cs fs h.1)
 
-get_at : (cs : List (List ℕ)) (w : ℕ) → w < length cs → slice_get cs w ≡ Some (slice_index_or cs w [])
-get_at [] w lt = absurd (omega (arith, lt))
-get_at (c ∷ cs) zero lt = refl
-get_at (c ∷ cs) (suc w) lt = get_at cs w (omega (arith, lt))
+-- ## Lives that are the last of no slot
 
-pub lives_there : (w : ℕ) (ss : List Slot) → w < length ss → slice_get (chains_of ss) w ≡ Some (lives_at w ss)
-lives_there w ss lt = get_at (chains_of ss) w (omega (arith, lt, chains_length ss))
+no_left : (a b : Bool) → (a || b) ≡ false → (a ≡ false) × (b ≡ false)
+no_left true b e = cc
+no_left false b e = (refl, e)
 
-set_here : (cs : List (List ℕ)) (w : ℕ) → cs ≡ slice_set cs w (slice_index_or cs w [])
-set_here [] w = refl
-set_here (c ∷ cs) zero = refl
-set_here (c ∷ cs) (suc w) = ap (λ ds. c ∷ ds) (set_here cs w)
+no_events : (cs : List (List ℕ)) (es : List (List (List ℕ))) (v : ℕ) → is_last v cs ≡ false → events_for cs es v ≡ []
+no_events [] es v out = refl
+no_events (c ∷ cs) [] v out = refl
+no_events (c ∷ cs) (e ∷ es) v out =
+    let both = no_left (nat_eq (last_life c) v) (is_last v cs) out in
+    ap (λ b. (if b then e else []) ++ events_for cs es v) both.0 ∙ no_events cs es v both.1
 
-pub chain_there : (homes : List ℕ) (born w : ℕ) (ss : List Slot) → w < length ss → Chains homes born 0 (chains_of ss) → IsChain homes born w (lives_at w ss)
-chain_there homes born w ss lt h = chain_in homes born 0 w w (chains_of ss) (lives_at w ss) (omega arith) (lives_there w ss lt) h
+gets_none : (b : Bool) (vs : List (List ℕ)) → vs ≡ [] → (if b then vs else []) ≡ []
+gets_none true vs e = e
+gets_none false vs e = refl
 
--- no pick yet
-pub chains_here : (w : ℕ) (ss : List Slot) → chains_of ss ≡ slice_set (chains_of ss) w (lives_at w ss)
-chains_here w ss = set_here (chains_of ss) w
+-- what is none of theirs is not that of one slot
+pub not_last : (v i : ℕ) (cs : List (List ℕ)) (c : List ℕ) → slice_get cs i ≡ Some c → is_last v cs ≡ false → nat_eq (last_life c) v ≡ false
+not_last v i [] c at out = cc
+not_last v zero (d ∷ cs) c at out = ap (λ x. nat_eq (last_life x) v) (sym (some_is d c at)) ∙ (no_left (nat_eq (last_life d) v) (is_last v cs) out).0
+not_last v (suc i) (d ∷ cs) c at out = not_last v i cs c at (no_left (nat_eq (last_life d) v) (is_last v cs) out).1
 
-on_is : (cs : List (List ℕ)) (w : ℕ) → on_at w (drop 1) cs ≡ slice_set cs w (drop 1 (slice_index_or cs w []))
-on_is [] w = refl
-on_is (c ∷ cs) zero = refl
-on_is (c ∷ cs) (suc w) = ap (λ ds. c ∷ ds) (on_is cs w)
+-- one of these is as it was
+pub others_stay : (accepts : ℕ → Bool) (cs : List (List ℕ)) (es : List (List (List ℕ))) (ss : List Seen) (v : ℕ) → is_last v cs ≡ false
+    → slice_get (with_more (gets accepts cs es) 0 ss) v ≡ slice_get ss v
+others_stay accepts cs es ss v out =
+    more_at (gets accepts cs es) 0 v v ss (omega arith) ∙ (ap (λ vs. option_map (given_events vs) (slice_get ss v)) (gets_none (accepts v) (events_for cs es v) (no_events cs es v out)) ∙ nothing (slice_get ss v))
+  where
+    nothing : (o : Option Seen) → option_map (given_events []) o ≡ o
+    nothing None = refl
+    nothing (Some s) = ap Some (given_none s)
 
-set_get : (cs : List (List ℕ)) (w : ℕ) (c : List ℕ) → w < length cs → slice_index_or (slice_set cs w c) w [] ≡ c
-set_get [] w c lt = absurd (omega (arith, lt))
-set_get (x ∷ cs) zero c lt = refl
-set_get (x ∷ cs) (suc w) c lt = set_get cs w c (omega (arith, lt))
-
-set_twice : (cs : List (List ℕ)) (w : ℕ) (c e : List ℕ) → slice_set (slice_set cs w c) w e ≡ slice_set cs w e
-set_twice [] w c e = refl
-set_twice (x ∷ cs) zero c e = refl
-set_twice (x ∷ cs) (suc w) c e = ap (λ ds. x ∷ ds) (set_twice cs w c e)
-
--- the slot has a life less
-pub lives_next : (w : ℕ) (ss ts : List Slot) → w < length ss → chains_of ts ≡ on_at w (drop 1) (chains_of ss) → lives_at w ts ≡ drop 1 (lives_at w ss)
-lives_next w ss ts lt e = ap (λ cs. slice_index_or cs w []) (e ∙ on_is (chains_of ss) w) ∙ set_get (chains_of ss) w (drop 1 (lives_at w ss)) (omega (arith, lt, chains_length ss))
-
-pub chains_next : (w : ℕ) (rs ss ts : List Slot) → w < length ss → chains_of ts ≡ on_at w (drop 1) (chains_of ss) → chains_of ss ≡ slice_set (chains_of rs) w (lives_at w ss) → chains_of ts ≡ slice_set (chains_of rs) w (lives_at w ts)
-chains_next w rs ss ts lt e f =
-    e ∙ on_is (chains_of ss) w ∙ ap (λ cs. slice_set cs w (drop 1 (lives_at w ss))) f ∙ set_twice (chains_of rs) w (lives_at w ss) (drop 1 (lives_at w ss)) ∙ ap (slice_set (chains_of rs) w) (sym (lives_next w ss ts lt e))
-
-pub one_left : (ds cur : List ℕ) (b : Bool) → ds ≡ cur → b ≡ nat_lt 1 (length ds) → b ≡ false → drop 1 cur ≡ []
-one_left ds [] b e f g = refl
-one_left ds (x ∷ []) b e f g = refl
-one_left ds (x ∷ y ∷ zs) b e f g = let n : nat_lt 1 (length ds) ≡ nat_lt 1 (suc (suc (length zs))) = ap (λ xs. nat_lt 1 (length xs)) e in let m : nat_lt 1 (suc (suc (length zs))) ≡ true = lt-ltb 1 (suc (suc (length zs))) (omega arith) in cc
-
-pub more_left : (ds cur next : List ℕ) (b : Bool) → ds ≡ cur → b ≡ nat_lt 1 (length ds) → b ≡ true → next ≡ drop 1 cur → 0 < length next
-more_left ds [] next b e f g n = let m : nat_lt 1 (length ds) ≡ false = ap (λ xs. nat_lt 1 (length xs)) e in cc
-more_left ds (x ∷ []) next b e f g n = let m : nat_lt 1 (length ds) ≡ false = ap (λ xs. nat_lt 1 (length xs)) e in cc
-more_left ds (x ∷ y ∷ zs) next b e f g n = let m : length next ≡ suc (length zs) = ap length n in omega arith
-
-pub two_left : (ds cur : List ℕ) (b : Bool) → ds ≡ cur → b ≡ nat_lt 1 (length ds) → b ≡ true → 1 < length cur
-two_left ds [] b e f g = let m : nat_lt 1 (length ds) ≡ false = ap (λ xs. nat_lt 1 (length xs)) e in cc
-two_left ds (x ∷ []) b e f g = let m : nat_lt 1 (length ds) ≡ false = ap (λ xs. nat_lt 1 (length xs)) e in cc
-two_left ds (x ∷ y ∷ zs) b e f g = omega arith
-
-pub shorter : (xs ys : List ℕ) → ys ≡ drop 1 xs → 0 < length xs → length ys < length xs
-shorter [] ys e lt = absurd (omega (arith, lt))
-shorter (x ∷ xs) ys e lt = let same : length ys ≡ length xs = ap length e in omega (arith, same)
-
--- ## Beside the slot
-
-chain_other : (cs : List (List ℕ)) (w u : ℕ) (c : List ℕ) → w ≢ u → slice_get (slice_set cs w c) u ≡ slice_get cs u
-chain_other [] w u c ne = refl
-chain_other (x ∷ cs) zero zero c ne = absurd (ne refl)
-chain_other (x ∷ cs) zero (suc u) c ne = refl
-chain_other (x ∷ cs) (suc w) zero c ne = refl
-chain_other (x ∷ cs) (suc w) (suc u) c ne = chain_other cs w u c (λ e. ne (ap suc e))
-
-both_no : (a b : Bool) → (if a then true else b) ≡ false → (a ≡ false) × (b ≡ false)
-both_no true b e = cc
-both_no false b e = (refl, e)
-
-not_it : (v u : ℕ) → has u (v ∷ []) ≡ false → u ≢ v
-not_it v u e same =
-    let one : nat_eq v u ≡ false = (both_no (nat_eq v u) false e).0 in
-    let other : nat_eq v u ≡ true = eq-eqb v u (sym same) in
-    cc
-
--- lives of the slot were ended, and then its present one was picked
-pub beside_slot : (w v : ℕ) (c d e : Lives) (ss ts : List Slot) (js : List PickEntry) → Passed (lives_at w ss) (seens_of c) (seens_of d) js (lives_at w ts) → chains_of ts ≡ slice_set (chains_of ss) w (lives_at w ts)
-    → lives_at w ts ≡ v ∷ drop 1 (lives_at w ts) → ((u : ℕ) → u ≢ v → slice_get (seens_of e) u ≡ slice_get (seens_of d) u) → KeepsBeside w c e ss ts
-beside_slot w v c d e ss ts js passed set here others = record {
-  slots = λ u ne. ap (λ cs. slice_get cs u) set ∙ chain_other (chains_of ss) w u (lives_at w ts) (λ e. ne (sym e));
-  own = record { ended = passed.ended; are = passed.are };
-  lives = λ u out.
-      (let none = out_of u (lives_at w ss) passed.ended v (drop 1 (lives_at w ts)) (passed.are ∙ ap (λ xs. passed.ended ++ xs) here) out in
-      let parts = both_no (has u passed.ended) (has u (v ∷ [])) (sym (has_append u passed.ended (v ∷ [])) ∙ none) in
-      others u (not_it v u parts.1) ∙ passed.others u parts.0);
-}
-
--- nothing was done
-pub beside_here : (w : ℕ) (c : Lives) (ss : List Slot) → KeepsBeside w c c ss ss
-beside_here w c ss = record { slots = λ u ne. refl; own = record { ended = []; are = refl }; lives = λ v out. refl }
+pub last_of_lasts : (v : ℕ) (cs : List (List ℕ)) → is_last v (map (λ c. last_life c ∷ []) cs) ≡ is_last v cs
+last_of_lasts v [] = refl
+last_of_lasts v (c ∷ cs) = ap (λ b. nat_eq (last_life c) v || b) (last_of_lasts v cs)

@@ -6,7 +6,7 @@ use Rattle.js_names.specs.Code.{trees_of}
 use Rattle.life_laws.specs.Life.{Seen, potentials}
 use Rattle.native_image.specs.Sound.{HasRaw, KeepsPage}
 use Rattle.page_image.specs.Image.{owns}
-use Rattle.slot_laws.specs.Settled.{flag}
+use Rattle.life_laws.specs.Settled.{flag}
 use Rattle.native_image.specs.declared.handed.Shared.{Shared}
 use Rattle.life_queue.specs.Lives.{life_seen}
 use Rattle.life_queue.specs.Fine.{FineLife, KeepsCells, tally}

@@ -5,16 +5,16 @@ use Rattle.std.specs.declared.alloc.Global.{Global}
 use Rattle.std.specs.declared.vec.Vec.{Vec}
 use Rattle.js_names.specs.declared.code.Code.{Code}
 use Rattle.life_laws.specs.Life.{Seen, ready, weight}
-use Rattle.pick_laws.specs.declared.entry.Picked.{Picked}
-use Rattle.pick_laws.specs.Picks.{Picks}
-use Rattle.pick_laws.specs.Journal.{PickedAt}
+use Rattle.life_laws.specs.declared.entry.Picked.{Picked}
+use Rattle.life_laws.specs.Picks.{Picks}
+use Rattle.life_laws.specs.Journal.{PickedAt}
 use Rattle.native_image.specs.declared.handed.Shared.{Shared}
 use Rattle.life_queue.specs.Turn.{Turn}
 use Rattle.life_queue.specs.declared.life.Life.{Life}
 use Rattle.life_queue.specs.Lives.{life_seen, trees_in}
 use Rattle.life_queue.specs.Fine.{FineLife, FineTurn, KeepsLife, tally}
 use Rattle.life_picks.specs.Picking.{PicksLife}
-use Rattle.slot_laws.proofs.Passing.{get_other}
+use Rattle.life_laws.proofs.Passing.{get_other}
 use Rattle.slot_picks.specs.declared.lives.Place.{Place}
 use Rattle.slot_picks.specs.Places.{FewPlaces, FinePlaces, lent, seen_at, seens_from}
 use Rattle.slot_picks.proofs.Others.{few_at, fews_set, fines_at, fines_set, seen_life, seens_at, seens_set}

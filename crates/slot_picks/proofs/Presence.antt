@@ -1,10 +1,10 @@
 -- The lives that are present in their slots.
 use Rattle.std.proofs.Common.{◌≡◌, ◌≢◌, ℕ, zero, suc, ◌+◌, ◌<◌, Bool, true, false, ◌||◌, List, [], ◌∷◌, map, refl, sym, ap, ◌∙◌, arith, Some, eqb-true, eq-eqb}
 use Rattle.std.specs.Prelude.{if◌then◌else◌, nat_eq, slice_get, slice_set}
-use Rattle.slot_laws.specs.Chains.{Chains, IsChain, listed}
-use Rattle.slot_laws.specs.Slots.{IsTail, has}
-use Rattle.slot_laws.proofs.Chaining.{chain_set, chain_tail}
-use Rattle.slot_laws.proofs.Housing.{chain_in}
+use Rattle.life_laws.specs.Chains.{Chains, IsChain, listed}
+use Rattle.life_laws.specs.Slots.{IsTail, has}
+use Rattle.life_laws.proofs.Chaining.{chain_set, chain_tail}
+use Rattle.life_laws.proofs.Housing.{chain_in}
 use Rattle.slot_picks.specs.Lives.{is_present, present_of}
 
 no_true : false ≡ true → ⊥

@@ -1,10 +1,10 @@
 -- Slots of which none is ready.
 use Rattle.std.proofs.Common.{◌≡◌, ℕ, ◌+◌, ◌<◌, Bool, true, false, if◌then◌else◌, List, [], ◌∷◌, map, refl, sym, ap, ◌∙◌, arith}
 use Rattle.life_laws.specs.Life.{Seen, ready}
-use Rattle.pick_laws.specs.Journal.{ready_from}
-use Rattle.slot_laws.specs.Chains.{Chains, last_life}
-use Rattle.slot_laws.specs.Settled.{flag, slot_flags}
-use Rattle.slot_laws.specs.Slots.{slot_ready}
+use Rattle.life_laws.specs.Journal.{ready_from}
+use Rattle.life_laws.specs.Chains.{Chains, last_life}
+use Rattle.life_laws.specs.Settled.{flag, slot_flags}
+use Rattle.life_laws.specs.Slots.{slot_ready}
 
 none_behind : (b : Bool) (v : ℕ) (vs : List ℕ) → (if ready (flag b) then v ∷ vs else vs) ≡ [] → vs ≡ []
 none_behind true v vs e = cc

@@ -2,17 +2,17 @@
 use Rattle.std.proofs.Common.{◌≡◌, ℕ, zero, suc, ◌+◌, ◌<◌, ◌≤◌, Bool, true, false, if◌then◌else◌, List, [], ◌∷◌, ◌++◌, length, drop, get_or, refl, sym, ap, ◌∙◌, subst, arith, Option, Some}
 use Rattle.std.specs.Prelude.{is_some, not, slice_get, slice_set}
 use Rattle.life_laws.specs.Life.{IsCut, Seen, image, is_empty, ready}
-use Rattle.pick_laws.specs.declared.entry.PickEntry.{PickEntry}
-use Rattle.pick_laws.specs.declared.entry.Picked.{Picked}
-use Rattle.pick_laws.specs.declared.entry.Picked.TheVariants as picked
-use Rattle.pick_laws.specs.Picks.{Picks}
-use Rattle.pick_laws.specs.Journal.{ready_from}
-use Rattle.pick_laws.proofs.Ready.{below_length}
-use Rattle.slot_laws.specs.Chains.{Chains, PickedIn}
-use Rattle.slot_laws.specs.Slots.{Each, ready_of, slot_ready}
-use Rattle.slot_laws.specs.Settled.{flag, slot_flags}
-use Rattle.slot_laws.proofs.Passing.{append_cons}
-use Rattle.slot_laws.proofs.Settling.{flags_length, ready_flag, set_is, was_at, was_ready}
+use Rattle.life_laws.specs.declared.entry.PickEntry.{PickEntry}
+use Rattle.life_laws.specs.declared.entry.Picked.{Picked}
+use Rattle.life_laws.specs.declared.entry.Picked.TheVariants as picked
+use Rattle.life_laws.specs.Picks.{Picks}
+use Rattle.life_laws.specs.Journal.{ready_from}
+use Rattle.life_laws.proofs.Ready.{below_length}
+use Rattle.life_laws.specs.Chains.{Chains, PickedIn}
+use Rattle.life_laws.specs.Slots.{Each, ready_of, slot_ready}
+use Rattle.life_laws.specs.Settled.{flag, slot_flags}
+use Rattle.life_laws.proofs.Passing.{append_cons}
+use Rattle.life_laws.proofs.SlotsSettling.{flags_length, ready_flag, set_is, was_at, was_ready}
 use Rattle.slot_picks.specs.declared.lives.Lives.{Lives}
 use Rattle.slot_picks.specs.declared.slots.Slot.{Slot}
 use Rattle.slot_picks.specs.Lives.{chains_of, seens_of}

@@ -10,7 +10,7 @@ use Rattle.slot_picks.specs.declared.lives.Lives.{Lives}
 use Rattle.slot_picks.specs.declared.slots.Slot.{Slot}
 use Rattle.slot_picks.specs.Lives.{KeepsLivesAndPage, KeepsSlots, PageStays, PicksOn, PicksUntil, WantsMemory, no_pick, one_pick, spots_of}
 use Rattle.slot_picks.proofs.Keeping.{lives_here, lives_then}
-use Rattle.slot_picks.proofs.Looping.{beside_here}
+use Rattle.slot_picks.proofs.Following.{beside_here}
 use Rattle.slot_picks.proofs.Stands.{spots_same, standing_picked, tail_is}
 
 no_true : false ≡ true → ⊥

@@ -2,11 +2,11 @@
 use Rattle.std.proofs.Common.{◌≡◌, ℕ, zero, suc, ◌+◌, ◌-◌, ◌*◌, ◌<◌, ◌≤◌, ◌^◌, false, List, [], ◌∷◌, refl, sym, ap, ◌∙◌, subst, arith, Option, Some, None, option_map}
 use Rattle.std.specs.Prelude.{IfSome, slice_get, slice_set}
 use Rattle.life_laws.specs.Life.{Seen, image, shown}
-use Rattle.pick_laws.specs.declared.entry.PickEntry.{PickEntry}
-use Rattle.pick_laws.specs.declared.entry.Picked.{Picked}
-use Rattle.pick_laws.specs.declared.entry.Picked.TheVariants as picked
-use Rattle.pick_laws.specs.Journal.{Kept, PickedAt, entry_of, journal_after}
-use Rattle.slot_laws.specs.Settled.{flag}
+use Rattle.life_laws.specs.declared.entry.PickEntry.{PickEntry}
+use Rattle.life_laws.specs.declared.entry.Picked.{Picked}
+use Rattle.life_laws.specs.declared.entry.Picked.TheVariants as picked
+use Rattle.life_laws.specs.Journal.{Kept, PickedAt, entry_of, journal_after}
+use Rattle.life_laws.specs.Settled.{flag}
 use Rattle.native_image.specs.declared.handed.Shared.{Shared}
 use Rattle.life_queue.specs.Turn.{Turn}
 use Rattle.life_queue.specs.declared.life.Life.{Life}

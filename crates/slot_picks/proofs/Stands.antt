@@ -11,7 +11,7 @@ use Rattle.page_build.specs.Layout.{IsLot, Lot, Own, Root, Spot, lot_of}
 use Rattle.page_build.specs.Standing.{Exchanges, HostPasses, IsSpare, IsStanding, PagePasses}
 use Rattle.page_build.proofs.Passing.{pages_exchanged, passes_exchanged, spots_pass}
 use Rattle.page_build.proofs.Stands.{lot_stays, spare_stays, standing_stays}
-use Rattle.slot_laws.specs.Chains.{Chains, listed}
+use Rattle.life_laws.specs.Chains.{Chains, listed}
 use Rattle.slot_picks.specs.declared.lives.Lives.{Lives}
 use Rattle.slot_picks.specs.declared.lives.Place.{Place}
 use Rattle.slot_picks.specs.declared.slots.Slot.{Slot}

@@ -8,8 +8,8 @@ use Rattle.page_image.specs.Stays.{KeepsNodes}
 use Rattle.native_image.specs.Sound.{KeepsPage}
 use Rattle.native_image.proofs.Keeping.{page_keeps}
 use Rattle.page_build.specs.Standing.{Exchanges, IsSpare, IsStanding}
-use Rattle.pick_laws.specs.Journal.{on_at}
-use Rattle.slot_laws.proofs.Housing.{chain_in}
+use Rattle.life_laws.specs.Journal.{on_at}
+use Rattle.life_laws.proofs.Housing.{chain_in}
 use Rattle.life_queue.specs.Fine.{KeepsCells}
 use Rattle.life_queue.proofs.Keeps.{cells_same}
 use Rattle.slot_picks.specs.declared.lives.Lives.{Lives}

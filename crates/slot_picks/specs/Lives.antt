@@ -12,10 +12,10 @@ use Rattle.page_build.specs.Layout.{IsLot, lot_of}
 use Rattle.page_build.specs.Standing.{AreSpots, IsSpare, IsStanding, PagePasses}
 use Rattle.native_image.specs.Sound.{HasRaw}
 use Rattle.life_laws.specs.Life.{Seen}
-use Rattle.pick_laws.specs.declared.entry.Picked.{Picked}
-use Rattle.pick_laws.specs.Journal.{AllJoined, journal_room}
-use Rattle.slot_laws.specs.Chains.{Chains, PickedIn, Rest, Unspent, listed}
-use Rattle.slot_laws.specs.Slots.{IsTail, has}
+use Rattle.life_laws.specs.declared.entry.Picked.{Picked}
+use Rattle.life_laws.specs.Journal.{AllJoined, journal_room}
+use Rattle.life_laws.specs.Chains.{Chains, PickedIn, Rest, Unspent, listed}
+use Rattle.life_laws.specs.Slots.{IsTail, has}
 use Rattle.slot_picks.specs.declared.lives.Lives.{Lives}
 use Rattle.slot_picks.specs.declared.lives.Place.{Place}
 use Rattle.slot_picks.specs.declared.slots.Slot.{Slot}

@@ -7,7 +7,7 @@ use Rattle.js_names.specs.declared.code.Code.{Code}
 use Rattle.js_names.specs.Code.{trees_of}
 use Rattle.native_image.specs.Sound.{HoldsOwn}
 use Rattle.life_laws.specs.Life.{Seen}
-use Rattle.slot_laws.specs.Settled.{flag}
+use Rattle.life_laws.specs.Settled.{flag}
 use Rattle.native_image.specs.declared.handed.Shared.{Shared}
 pub use Rattle.life_queue.specs.Lives.{life_seen, outside}
 use Rattle.life_queue.specs.Fine.{FineLife, FineTurn, tally}

@@ -1,7 +1,7 @@
 //! The lives of all places: one is picked, and its pick is kept.
 ghost use Rattle.std.specs.Prelude.{◌≡◌, ◌≢◌, ℕ, ◌<◌, ◌≤◌, ◌++◌, [], ◌∷◌, IfOk, None, OnErr, OnOk, Some, true, length, slice_get};
 ghost use Rattle.life_laws.specs.Life.{Seen, image};
-ghost use Rattle.pick_laws.specs.Journal.{Kept, PickedAt, journal_room, kept};
+ghost use Rattle.life_laws.specs.Journal.{Kept, PickedAt, journal_room, kept};
 ghost use Rattle.native_image.specs.declared.handed.Shared.{Shared as SharedOf};
 ghost use Rattle.life_queue.specs.Fine.{FineLife, KeepsLife};
 ghost use Rattle.life_queue.specs.Lives.{life_seen};
@@ -12,11 +12,11 @@ ghost use Rattle.slot_picks.specs.Places.{lent};
 
 use code_units::Memory;
 use js_names::Code;
+use life_laws::{PickEntry, Picked};
 use life_picks::pick_life;
 use life_queue::Life;
 use native_image::Shared;
 use page_tree::NodeId;
-use pick_laws::{PickEntry, Picked};
 use std::alloc::Global;
 use std::collections::VecDeque;
 use std::mem::swap;

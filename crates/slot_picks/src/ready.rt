@@ -1,9 +1,9 @@
 //! The slots that are ready.
 ghost use Rattle.std.specs.Prelude.{◌≡◌, ℕ, ◌<◌, ◌++◌, [], ◌∷◌, IfOk, OnOk, Some, if◌then◌else◌, length, slice_get};
 ghost use Rattle.life_laws.specs.Life.{ready};
-ghost use Rattle.pick_laws.specs.Journal.{ready_from};
-ghost use Rattle.slot_laws.specs.Settled.{slot_flags};
-ghost use Rattle.slot_laws.specs.Slots.{Each, slot_ready};
+ghost use Rattle.life_laws.specs.Journal.{ready_from};
+ghost use Rattle.life_laws.specs.Settled.{slot_flags};
+ghost use Rattle.life_laws.specs.Slots.{Each, slot_ready};
 ghost use Rattle.life_queue.specs.Lives.{life_seen};
 ghost use Rattle.native_image.specs.declared.handed.Shared.{Shared as SharedOf};
 ghost use Rattle.slot_picks.specs.declared.slots.Slot.{Slot as SlotOf};

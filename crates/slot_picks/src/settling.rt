@@ -1,9 +1,9 @@
 //! Picks of slots, until none is ready.
 ghost use Rattle.std.specs.Prelude.{◌≡◌, ℕ, ◌<◌, IfOk, OnErr, OnOk, [], ◌∷◌, false, is_ok, map, Some, slice_get};
 ghost use Rattle.life_laws.specs.Life.{due, image};
-ghost use Rattle.pick_laws.specs.Journal.{ready_from};
-ghost use Rattle.slot_laws.specs.Chains.{PickedIn, last_life};
-ghost use Rattle.slot_laws.specs.Settled.{SettledSlots, slot_flags};
+ghost use Rattle.life_laws.specs.Journal.{ready_from};
+ghost use Rattle.life_laws.specs.Chains.{PickedIn, last_life};
+ghost use Rattle.life_laws.specs.Settled.{SettledSlots, slot_flags};
 ghost use Rattle.slot_picks.specs.Lives.{AreHoused, AreStanding, FewLives, KeepsSlots, PicksUntil, chains_of, seens_of};
 ghost use Rattle.slot_picks.specs.Places.{homes_of};
 
@@ -11,7 +11,7 @@ use crate::lives::Lives;
 use crate::ready::{fill_ready, ready_slots};
 use crate::slots::{Slot, pick_slot};
 use code_units::Memory;
-use pick_laws::Picked;
+use life_laws::Picked;
 use std::alloc::Global;
 use turn_sched::Chooser;
 

@@ -1,14 +1,14 @@
 //! The lives of a slot, and a pick of one slot.
 ghost use Rattle.std.specs.Prelude.{◌≡◌, ℕ, ◌<◌, IfOk, OnErr, OnOk, Some, length, slice_get, nat_lt, drop};
-ghost use Rattle.pick_laws.specs.Journal.{on_at};
-ghost use Rattle.slot_laws.specs.Chains.{PickedIn};
+ghost use Rattle.life_laws.specs.Journal.{on_at};
+ghost use Rattle.life_laws.specs.Chains.{PickedIn};
 ghost use Rattle.slot_picks.specs.declared.slots.Slot.{Slot as SlotOf};
 ghost use Rattle.slot_picks.specs.Lives.{AreHoused, AreStanding, FewLives, FineLives, KeepsBeside, KeepsSlots, chains_of, seens_of};
 
 use crate::lives::{Lives, pick_kept};
 use code_units::{Memory, Text};
+use life_laws::Picked;
 use page_build::swap_stands;
-use pick_laws::Picked;
 use std::alloc::Global;
 
 /// A slot: its name, the fuel of each turn of its lives, and its lives, the present one first, then those

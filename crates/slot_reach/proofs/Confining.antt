@@ -10,7 +10,7 @@ use Rattle.js_tree.specs.Forest.{Forest}
 use Rattle.native_image.specs.Sound.{HoldsOwn}
 use Rattle.page_tree.specs.declared.page.Page.{Page}
 use Rattle.reach_cert.specs.Certs as cert
-use Rattle.slot_laws.specs.Chains.{last_life}
+use Rattle.life_laws.specs.Chains.{last_life}
 use Rattle.slot_picks.specs.declared.lives.Lives.{Lives}
 use Rattle.slot_picks.specs.declared.lives.Place.{Place}
 use Rattle.slot_picks.specs.declared.slots.Slot.{Slot}
@@ -18,15 +18,15 @@ use Rattle.native_image.specs.declared.handed.Shared.{Shared}
 use Rattle.slot_picks.specs.Lives.{AreStanding, OwnLives}
 use Rattle.slot_picks.specs.Places.{HoldsItsOwn, OwnPlaces, homes_of, life_seen, outside}
 use Rattle.reach_cert.specs.Walks.{KeepsIn}
-use Rattle.store_reach.specs.Reads.{read_slot}
+use Rattle.slot_reach.specs.Reads.{read_slot}
 use Rattle.native_image.specs.Image.{Outside, beside, image}
 use Rattle.js_names.specs.Code.{trees_of}
 use Rattle.life_laws.specs.Life as todo
 use Rattle.life_laws.specs.Life.{Going}
 use Rattle.widget_meaning.specs.OwnState.{OwnState}
 use Rattle.slot_picks.specs.Places.{lent}
-use Rattle.state_reach.specs.Differ.{AllDiffer}
-use Rattle.state_reach.specs.States.{cert_of_states, slot_of_state, state_slot}
+use Rattle.slot_reach.specs.Differ.{AllDiffer}
+use Rattle.slot_reach.specs.States.{cert_of_states, slot_of_state, state_slot}
 use Rattle.slot_reach.specs.Lasts.{life_read, names_before, reached, slot_read, state_at, state_in, states}
 use Rattle.slot_reach.proofs.Naming.{chain_at, low_last, name_at, named}
 

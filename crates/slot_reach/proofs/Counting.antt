@@ -10,14 +10,14 @@ use Rattle.reach_cert.specs.Certs as cert
 use Rattle.reach_cert.specs.Certs.{EndLine, HeldLine, Row, cell_lines, cert_lines, slot_lines}
 use Rattle.reach_cert.specs.Shape.{IsCert, is_name, slot_name}
 use Rattle.reach_cert.specs.Walks.{IsConfined}
-use Rattle.slot_laws.specs.Chains.{last_life}
+use Rattle.life_laws.specs.Chains.{last_life}
 use Rattle.slot_picks.specs.declared.lives.Lives.{Lives}
 use Rattle.slot_picks.specs.declared.lives.Place.{Place}
 use Rattle.slot_picks.specs.declared.slots.Slot.{Slot}
 use Rattle.native_image.specs.declared.handed.Shared.{Shared}
 use Rattle.slot_picks.specs.Lives.{AreStanding}
 use Rattle.slot_picks.specs.Places.{homes_of}
-use Rattle.store_reach.specs.Reads.{cell_row, cell_rows, held_refs, read_slot}
+use Rattle.slot_reach.specs.Reads.{cell_row, cell_rows, held_refs, read_slot}
 use Rattle.slot_reach.specs.Lasts.{AreFew, AreNames, life_read, names_before, names_of, reached, slot_read}
 use Rattle.slot_reach.proofs.Naming.{chain_at, low_last}
 

@@ -4,8 +4,8 @@ use Rattle.std.specs.List.{zip}
 use Rattle.std.specs.Option.{option_and_then}
 use Rattle.store_cells.proofs.Lists.{none_some, some_same}
 use Rattle.life_laws.specs.Life.{Seen, image}
-use Rattle.slot_laws.specs.Chains.{last_life}
-use Rattle.slot_laws.specs.Settled.{flag}
+use Rattle.life_laws.specs.Chains.{last_life}
+use Rattle.life_laws.specs.Settled.{flag}
 use Rattle.slot_picks.specs.declared.lives.Lives.{Lives}
 use Rattle.slot_picks.specs.declared.lives.Place.{Place}
 use Rattle.slot_picks.specs.declared.slots.Slot.{Slot}

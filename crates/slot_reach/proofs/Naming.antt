@@ -3,8 +3,8 @@ use Rattle.std.proofs.Common.{◌≡◌, ℕ, zero, suc, ◌+◌, ◌-◌, ◌<�
 use Rattle.std.specs.Prelude.{◌==◌, slice_index_or}
 use Rattle.std.proofs.lemmas.Bool.Decides.{nat_tests}
 use Rattle.store_cells.proofs.Lists.{none_some, some_same}
-use Rattle.slot_laws.specs.Chains.{Chains, IsChain, last_from, last_life}
-use Rattle.slot_laws.specs.Slots.{Each}
+use Rattle.life_laws.specs.Chains.{Chains, IsChain, last_from, last_life}
+use Rattle.life_laws.specs.Slots.{Each}
 use Rattle.slot_picks.specs.declared.slots.Slot.{Slot}
 use Rattle.slot_reach.specs.Lasts.{name_in, names_before}
 

@@ -3,7 +3,7 @@ use Rattle.std.specs.Prelude.{◌≡◌, ◌≤◌, ℕ, zero, suc, ◌++◌, tr
 use Rattle.std.specs.List.{IsDistinct, list_all}
 use Rattle.std.specs.Option.{option_and_then, option_map_or}
 use Rattle.std.specs.Str.{bytes_eq}
-use Rattle.slot_laws.specs.Chains.{last_life}
+use Rattle.life_laws.specs.Chains.{last_life}
 use Rattle.slot_picks.specs.declared.lives.Lives.{Lives}
 use Rattle.slot_picks.specs.declared.lives.Place.{Place}
 use Rattle.slot_picks.specs.declared.slots.Slot.{Slot}
@@ -14,7 +14,7 @@ use Rattle.native_image.specs.declared.handed.Shared.{Shared}
 use Rattle.reach_cert.specs.Certs as cert
 use Rattle.reach_cert.specs.Shape.{is_name}
 use Rattle.widget_meaning.specs.OwnState.{OwnState}
-use Rattle.store_reach.specs.Reads.{read_slot}
+use Rattle.slot_reach.specs.Reads.{read_slot}
 
 -- the name of the slot in which a life is the last one, if there is one
 abbrev pub name_in : List Slot → ℕ → Option (List ℕ)

@@ -1,6 +1,6 @@
 //! The names with which a certificate has the cells of lives.
 ghost use Rattle.std.specs.Prelude.{◌≡◌, IfOk, option_copied};
-ghost use Rattle.slot_laws.specs.Chains.{last_life};
+ghost use Rattle.life_laws.specs.Chains.{last_life};
 ghost use Rattle.slot_reach.specs.Lasts.{name_in, names_before};
 
 use code_units::{Memory, Text};

@@ -5,17 +5,18 @@ ghost use Rattle.reach_cert.specs.Shape.{IsCert, slot_name};
 ghost use Rattle.reach_cert.specs.Walks.{IsConfined};
 ghost use Rattle.slot_picks.specs.Lives.{AreStanding, OwnLives};
 ghost use Rattle.slot_reach.specs.Lasts.{AreFew, AreNames, life_read, names_of, reached, slot_read, states};
-ghost use Rattle.state_reach.specs.States.{cert_of_states};
+ghost use Rattle.slot_reach.specs.States.{cert_of_states};
 
+use crate::blocks::read_block;
 use crate::few::cells_are_few;
 use crate::names::{last_of, name_all};
+use crate::state_laws::{names_all_differ, states_are_read};
+use crate::store_laws::own_stays;
 use code_units::{Memory, Text};
 use native_image::Shared;
 use reach_cert::{Block, Cert, confined_has_shape, each_slot_keeps_in};
 use slot_picks::{Lives, Place, Slot};
-use state_reach::{names_all_differ, states_are_read};
 use std::alloc::Global;
-use store_reach::{own_stays, read_block};
 
 // The block of a life, of a slot with this name.
 fn read_life(

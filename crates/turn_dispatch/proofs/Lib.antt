@@ -6,3 +6,8 @@ mod Evented
 mod Announced
 mod Listening
 mod Searched
+pub mod Stays
+pub mod Taken
+mod Arms
+pub mod Kept
+mod Given

@@ -14,7 +14,7 @@ use Rattle.page_tree.specs.declared.page.Page.{Page}
 use Rattle.page_image.specs.Image.{number}
 use Rattle.event_loop.specs.declared.around.Loop.{Loop}
 use Rattle.event_loop.specs.Deliveries.{found_of}
-use Rattle.event_image.specs.Image.{Shows, own_found}
+use Rattle.page_image.specs.Around.{Shows, own_found}
 use Rattle.native_image.specs.Image.{Outside, beside, image}
 use Rattle.native_image.specs.Sound.{HoldsOwn}
 use Rattle.native_image.proofs.Joint.{image_shows}

@@ -1,3 +1,4 @@
+pub use Rattle.js_steps.specs.declared.answer.Stepped
 pub use Rattle.js_steps.specs.declared.answer.Stop
 pub use Rattle.js_steps.specs.declared.task.Task
 pub use Rattle.js_steps.specs.Answered
@@ -5,3 +6,7 @@ pub use Rattle.js_steps.specs.Ending
 pub mod Levels
 pub mod Held
 pub mod Events
+pub mod Took
+pub mod Turns
+pub mod Weights
+pub mod Waiting

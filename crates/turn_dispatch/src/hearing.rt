@@ -20,7 +20,7 @@ ghost use Rattle.turn_dispatch.specs.Levels.{heard_plan};
 use crate::events::{make_event, refusal};
 use crate::level::{Dispatch, Heard, Hearing};
 use code_units::Memory;
-use native_common::WidgetId;
+use native_image::WidgetId;
 use object_store::{CellId, Store};
 use page_tree::{NodeId, Page};
 use std::alloc::Global;

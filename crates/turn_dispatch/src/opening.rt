@@ -19,7 +19,7 @@ use code_units::Memory;
 use js_image::{Made, make};
 use js_steps::{Task, begin};
 use js_tree::FunId;
-use native_common::WidgetId;
+use native_image::WidgetId;
 use object_store::{CellId, NewCell, Store, Value};
 use std::alloc::Global;
 

@@ -10,7 +10,7 @@ ghost use Rattle.event_loop.specs.Deliveries.{found_of};
 ghost use Rattle.event_loop.specs.declared.around.Loop.{Loop as LoopOf};
 ghost use Rattle.page_image.specs.Held.{OptionIn};
 ghost use Rattle.page_image.specs.Image.{HasRoot, number, owns, root_of};
-ghost use Rattle.event_image.specs.Image.{Shows, own_found};
+ghost use Rattle.page_image.specs.Around.{Shows, own_found};
 ghost use Rattle.js_image.specs.Image.{seen};
 ghost use Rattle.native_image.specs.Image.{Outside, beside, image};
 ghost use Rattle.native_image.specs.Sound.{HoldsOwn, IsOwnCell, IsSound, KeepsStore};
@@ -22,7 +22,7 @@ use crate::level::{Dispatch, Heard};
 use crate::site::Site;
 use code_units::{Memory, Owner, Text};
 use event_loop::Loop;
-use native_common::WidgetId;
+use native_image::WidgetId;
 use object_store::{CellId, Store};
 use page_tree::{NodeId, Page};
 use std::alloc::Global;
@@ -61,7 +61,7 @@ pub fn listeners(
 }
 
 /// Begins a dispatch at the nearest node, at or above one, that listens; none where no node does.
-pub fn search(
+pub(crate) fn search(
     alloc: Global,
     store: &mut Store,
     site: &Site,

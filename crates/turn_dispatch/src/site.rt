@@ -1,7 +1,7 @@
 //! Where a turn goes on.
 
 use event_loop::Loop;
-use native_common::WidgetId;
+use native_image::WidgetId;
 use page_tree::Page;
 
 /// Where a turn goes on: a widget by its number, the page, and what is kept for the widget beside it.

@@ -5,7 +5,7 @@ use Rattle.std.specs.Prelude.{nat_eq, ◌||◌}
 use Rattle.std.proofs.lemmas.Bool.Decides.{nat_tests}
 use Rattle.js_tree.specs.Forest.{Forest}
 use Rattle.query_grammar.specs.Finds.{has_number}
-use Rattle.store_cells.specs.Cells.{PlainCell}
+use Rattle.store_cells.specs.Cells.{Cells, PlainCell}
 use Rattle.store_cells.specs.declared.value.Value.TheVariants as value
 use Rattle.widget_meaning.specs.Values.{Completion}
 use Rattle.widget_meaning.specs.OwnState.{State}
@@ -20,10 +20,10 @@ use Rattle.js_calls.specs.Called.{given}
 use Rattle.js_flow.specs.declared.job.Completion.TheVariants as completion
 use Rattle.js_flow.specs.declared.task.Control.TheVariants as control
 use Rattle.js_flow.specs.Frames.{rest}
-use Rattle.js_flow.specs.Todo.{Moves}
+use Rattle.js_flow.specs.Todo.{Moves, after_step}
 use Rattle.js_flow.specs.Views.{completion_of}
-use Rattle.js_image.specs.Image.{seen}
-use Rattle.js_steps.specs.declared.task.Task.{Task}
+use Rattle.js_image.specs.Image.{Rest, image as store_image, seen}
+use Rattle.turn_dispatch.specs.Task.{Task}
 use Rattle.js_values.specs.Answers.{Goes, Leaves}
 use Rattle.js_values.proofs.Answered.{goes_then}
 use Rattle.js_values.specs.declared.outcome.NativeOut.{NativeOut}
@@ -32,30 +32,25 @@ use Rattle.js_values.specs.declared.outcome.Plan.TheVariants as calls
 use Rattle.turn_dispatch.specs.declared.level.Firing.{Firing}
 use Rattle.turn_dispatch.specs.declared.level.Level.{Level}
 use Rattle.turn_dispatch.specs.declared.level.Level.TheVariants as level
-use Rattle.turn_dispatch.specs.Levels.{levels_rest}
-use Rattle.turn_returns.specs.Weights.{level_free, levels_free}
+use Rattle.turn_dispatch.specs.Levels.{levels_rest, turn_plan}
+use Rattle.turn_dispatch.specs.Weights.{level_free, levels_free, doing_free}
 use Rattle.std.specs.Global.{Box}
-use Rattle.store_cells.specs.Cells.{Cells}
 use Rattle.object_store.specs.Grows.{Grows}
-use Rattle.js_image.specs.Image.{Rest, image as store_image}
 use Rattle.js_flow.specs.Fine.{FineFrames}
 use Rattle.js_flow.specs.Free.{frames_free, free, native_free}
-use Rattle.js_flow.specs.Todo.{after_step}
 use Rattle.plan_ends.specs.Ends.{ByValue}
-use Rattle.js_steps.specs.Answered.{IsFineAfter, machine, remaining_after}
-use Rattle.js_steps.specs.Ending.{Awaits}
-use Rattle.js_steps.specs.declared.answer.Stepped.{Stepped}
+use Rattle.turn_dispatch.specs.Answered.{IsFineAfter, machine, remaining_after}
+use Rattle.turn_dispatch.specs.Ending.{Awaits}
+use Rattle.turn_dispatch.specs.Stepped.{Stepped}
 use Rattle.native_image.specs.Image.{Outside, beside}
 use Rattle.native_image.proofs.Joint.{rest as outside_rest, store_lift}
 use Rattle.natives.specs.Reach.{with_notes}
 use Rattle.turn_dispatch.specs.declared.level.Doing.{Doing}
 use Rattle.turn_dispatch.specs.Held.{FineDoing}
-use Rattle.turn_dispatch.specs.Levels.{turn_plan}
-use Rattle.turn_returns.specs.declared.calls.Calls.{Calls}
-use Rattle.turn_returns.specs.Turns.{bubbled_of, outside_of, turn_image}
-use Rattle.turn_returns.specs.Waiting.{FineFiring, FineLevels}
-use Rattle.turn_returns.specs.Weights.{doing_free}
-use Rattle.turn_returns.proofs.Stays.{fine_push, levels_fine, levels_last, levels_same}
+use Rattle.turn_dispatch.specs.declared.calls.Calls.{Calls}
+use Rattle.turn_dispatch.specs.Turns.{bubbled_of, outside_of, turn_image}
+use Rattle.turn_dispatch.specs.Waiting.{FineFiring, FineLevels}
+use Rattle.turn_dispatch.proofs.Stays.{fine_push, levels_fine, levels_last, levels_same}
 use Rattle.native_image.specs.declared.handed.Shared.{Shared}
 use Rattle.native_image.specs.declared.handed.Widget.{Widget}
 use Rattle.turn_steps.specs.Carrying.{IsAnswered}

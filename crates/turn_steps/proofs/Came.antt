@@ -2,12 +2,12 @@
 use Rattle.std.proofs.Common.{◌≡◌, ℕ, ◌-◌, ◌<◌, ◌≤◌, subst, sym, ◌⊎◌, inl, inr}
 use Rattle.std.proofs.lemmas.Bool.{cases_lt}
 use Rattle.widget_meaning.specs.Meaning.{run_plan}
-use Rattle.js_steps.specs.declared.answer.Stop.TheVariants as stop
+use Rattle.turn_dispatch.specs.Stop.TheVariants as stop
 use Rattle.js_values.specs.Answers.{out_of_fuel}
 use Rattle.native_image.specs.Image.{Outside}
 use Rattle.life_laws.specs.Life.{Fixed, Runs}
 use Rattle.native_image.specs.declared.handed.Shared.{Shared}
-use Rattle.turn_returns.specs.declared.turn.Turn.{Turn}
+use Rattle.turn_dispatch.specs.declared.turn.Turn.{Turn}
 use Rattle.native_image.specs.declared.handed.Widget.{Widget}
 use Rattle.turn_steps.specs.declared.turn.Ran.{Ran}
 use Rattle.turn_steps.specs.declared.turn.Ran.TheVariants as ran

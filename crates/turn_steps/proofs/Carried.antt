@@ -21,7 +21,7 @@ use Rattle.native_image.specs.Sound.{IsSound, KeepsAll}
 use Rattle.native_image.proofs.Meeting.{no_outside}
 use Rattle.natives.specs.Refines.{RefinesWhole, plan_of}
 use Rattle.natives.specs.Reach.{Reach, reach, state}
-use Rattle.turn_returns.specs.Turns.{bubbled_of, outside_of}
+use Rattle.turn_dispatch.specs.Turns.{bubbled_of, outside_of}
 use Rattle.native_image.specs.declared.handed.Shared.{Shared}
 use Rattle.native_image.specs.declared.handed.Widget.{Widget}
 use Rattle.turn_steps.specs.Carrying.{IsPerformed}

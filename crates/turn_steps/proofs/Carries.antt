@@ -18,9 +18,9 @@ use Rattle.js_flow.specs.Todo.{Moves}
 use Rattle.js_flow.proofs.Stays.{frames_fine, rest_same}
 use Rattle.js_names.specs.Code.{trees_of}
 use Rattle.plan_ends.specs.Ends.{ByValue}
-use Rattle.js_steps.specs.declared.task.Task.{Task}
-use Rattle.js_steps.specs.Ending.{Awaits}
-use Rattle.js_steps.proofs.Ending.{awaits_later}
+use Rattle.turn_dispatch.specs.Task.{Task}
+use Rattle.turn_dispatch.specs.Ending.{Awaits}
+use Rattle.turn_dispatch.proofs.Ending.{awaits_later}
 use Rattle.js_values.specs.Answers.{Goes, IsOutOfFuel, Lacks, out_of_fuel}
 use Rattle.js_values.specs.Fuel.{Fuel}
 use Rattle.js_values.specs.declared.outcome.NativeOut.{NativeOut}
@@ -33,12 +33,12 @@ use Rattle.turn_dispatch.specs.declared.level.Doing.TheVariants as doing
 use Rattle.turn_dispatch.specs.declared.level.Level.{Level}
 use Rattle.turn_dispatch.specs.Held.{FineDoing}
 use Rattle.turn_dispatch.specs.Levels.{levels_rest, turn_plan}
-use Rattle.turn_returns.specs.declared.calls.Calls.{Calls}
+use Rattle.turn_dispatch.specs.declared.calls.Calls.{Calls}
 use Rattle.native_image.specs.declared.handed.Shared.{Shared}
 use Rattle.native_image.specs.declared.handed.Widget.{Widget}
-use Rattle.turn_returns.specs.Waiting.{FineLevels}
-use Rattle.turn_returns.specs.Weights.{levels_free}
-use Rattle.turn_returns.proofs.Stays.{levels_fine, levels_same}
+use Rattle.turn_dispatch.specs.Waiting.{FineLevels}
+use Rattle.turn_dispatch.specs.Weights.{levels_free}
+use Rattle.turn_dispatch.proofs.Stays.{levels_fine, levels_same}
 use Rattle.turn_steps.specs.Carrying.{IsAnswered, IsPerformed, is_wanting}
 use Rattle.turn_steps.specs.Keeping.{Keeps}
 use Rattle.turn_steps.specs.Steps.{IsMoved, doing_in}

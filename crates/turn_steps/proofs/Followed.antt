@@ -7,18 +7,18 @@ use Rattle.page_tree.specs.declared.page.Page.{Page}
 use Rattle.event_loop.specs.declared.around.Loop.{Loop}
 use Rattle.js_image.specs.declared.outcome.StopCause.{StopCause}
 use Rattle.js_flow.specs.Todo.{Follows, after_step}
-use Rattle.js_steps.specs.declared.answer.Stepped.{Stepped}
-use Rattle.js_steps.specs.declared.answer.Stepped.TheVariants as stepped
-use Rattle.js_steps.specs.declared.answer.Stop.{Stop}
-use Rattle.js_steps.specs.declared.answer.Stop.TheVariants as stop
-use Rattle.js_steps.specs.declared.task.Task.{Task}
-use Rattle.js_steps.specs.Answered.{machine}
+use Rattle.turn_dispatch.specs.Stepped.{Stepped}
+use Rattle.turn_dispatch.specs.Stepped.TheVariants as stepped
+use Rattle.turn_dispatch.specs.Stop.{Stop}
+use Rattle.turn_dispatch.specs.Stop.TheVariants as stop
+use Rattle.turn_dispatch.specs.Task.{Task}
+use Rattle.turn_dispatch.specs.Answered.{machine}
 use Rattle.native_image.specs.Image.{Outside}
 use Rattle.turn_dispatch.specs.declared.level.Doing.{Doing}
 use Rattle.turn_dispatch.specs.declared.level.Doing.TheVariants as doing
 use Rattle.turn_dispatch.specs.Levels.{levels_rest}
-use Rattle.turn_returns.specs.declared.calls.Calls.{Calls}
-use Rattle.turn_returns.specs.Turns.{turn_image}
+use Rattle.turn_dispatch.specs.declared.calls.Calls.{Calls}
+use Rattle.turn_dispatch.specs.Turns.{turn_image}
 use Rattle.turn_steps.specs.Steps.{IsFollowed, is_short}
 
 no_true : false ≡ true → ⊥

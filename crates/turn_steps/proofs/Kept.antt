@@ -14,7 +14,7 @@ use Rattle.native_image.proofs.Keeping.{grows_next, host_here, page_same, page_t
 use Rattle.js_names.specs.Code.{trees_of}
 use Rattle.native_image.specs.declared.handed.Shared.{Shared}
 use Rattle.native_image.specs.declared.handed.Widget.{Widget}
-use Rattle.turn_returns.specs.Took.{StaysSound}
+use Rattle.turn_dispatch.specs.Took.{StaysSound}
 use Rattle.turn_steps.specs.Keeping.{Keeps, KeepsTurn}
 use Rattle.turn_steps.specs.Turning.{forests}
 

@@ -7,11 +7,11 @@ use Rattle.js_image.specs.Held.{Kept}
 use Rattle.js_image.specs.Image.{Rest, image}
 use Rattle.js_flow.specs.Todo.{IsOver, Strides, after_step}
 use Rattle.js_values.specs.Answers.{out_of_fuel}
-use Rattle.js_steps.specs.declared.answer.Stepped.{Stepped}
-use Rattle.js_steps.specs.declared.answer.Stepped.TheVariants as stepped
-use Rattle.js_steps.specs.declared.answer.Stop.TheVariants as stop
-use Rattle.js_steps.specs.declared.task.Task.{Task}
-use Rattle.js_steps.specs.Answered.{IsFuelStop, IsWent, machine, remaining, remaining_after}
+use Rattle.turn_dispatch.specs.Stepped.{Stepped}
+use Rattle.turn_dispatch.specs.Stepped.TheVariants as stepped
+use Rattle.turn_dispatch.specs.Stop.TheVariants as stop
+use Rattle.turn_dispatch.specs.Task.{Task}
+use Rattle.turn_dispatch.specs.Answered.{IsFuelStop, IsWent, machine, remaining, remaining_after}
 use Rattle.page_image.specs.Image.{owns}
 use Rattle.native_image.specs.Sound.{IsSound}
 use Rattle.native_image.specs.Image.{Outside, beside}
@@ -21,12 +21,12 @@ use Rattle.turn_dispatch.specs.declared.level.Doing.{Doing}
 use Rattle.turn_dispatch.specs.declared.level.Doing.TheVariants as doing
 use Rattle.turn_dispatch.specs.Held.{FineDoing, FineTask}
 use Rattle.turn_dispatch.specs.Levels.{levels_rest, turn_plan}
-use Rattle.turn_returns.specs.declared.calls.Calls.{Calls}
+use Rattle.turn_dispatch.specs.declared.calls.Calls.{Calls}
 use Rattle.native_image.specs.declared.handed.Shared.{Shared}
 use Rattle.native_image.specs.declared.handed.Widget.{Widget}
-use Rattle.turn_returns.specs.Turns.{bubbled_of, outside_of, turn_image}
-use Rattle.turn_returns.specs.Waiting.{FineLevels}
-use Rattle.turn_returns.proofs.Stays.{levels_fine, levels_same}
+use Rattle.turn_dispatch.specs.Turns.{bubbled_of, outside_of, turn_image}
+use Rattle.turn_dispatch.specs.Waiting.{FineLevels}
+use Rattle.turn_dispatch.proofs.Stays.{levels_fine, levels_same}
 use Rattle.turn_steps.specs.Steps.{IsFollowed, doing_in, is_short}
 use Rattle.turn_steps.specs.Turning.{FineWidget, forests, state_in}
 use Rattle.turn_steps.proofs.Moved.{short_over}

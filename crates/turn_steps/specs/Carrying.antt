@@ -6,7 +6,7 @@ use Rattle.js_calls.specs.Called.{given}
 use Rattle.js_flow.specs.Free.{frames_free, native_free}
 use Rattle.js_flow.specs.Frames.{rest}
 use Rattle.js_image.specs.Image.{seen}
-use Rattle.js_steps.specs.declared.task.Task.{Task}
+use Rattle.turn_dispatch.specs.Task.{Task}
 use Rattle.js_values.specs.Answers.{Answers, IsFineOut, IsOutOfFuel}
 use Rattle.js_values.specs.Fuel.{Fuel}
 use Rattle.js_values.specs.declared.outcome.NativeOut.{NativeOut}
@@ -19,9 +19,9 @@ use Rattle.natives.specs.Refines.{plan_of}
 use Rattle.turn_dispatch.specs.declared.level.Doing.{Doing}
 use Rattle.turn_dispatch.specs.Held.{FineDoing}
 use Rattle.turn_dispatch.specs.Levels.{levels_rest}
-use Rattle.turn_returns.specs.declared.calls.Calls.{Calls}
-use Rattle.turn_returns.specs.Waiting.{FineLevels}
-use Rattle.turn_returns.specs.Weights.{doing_free, levels_free}
+use Rattle.turn_dispatch.specs.declared.calls.Calls.{Calls}
+use Rattle.turn_dispatch.specs.Waiting.{FineLevels}
+use Rattle.turn_dispatch.specs.Weights.{doing_free, levels_free}
 use Rattle.native_image.specs.declared.handed.Shared.{Shared}
 use Rattle.native_image.specs.declared.handed.Widget.{Widget}
 use Rattle.turn_steps.specs.Steps.{doing_in}

@@ -6,8 +6,8 @@ use Rattle.widget_meaning.specs.Meaning.{run_plan}
 use Rattle.native_image.specs.Image.{Outside}
 use Rattle.life_laws.specs.Life.{Fixed, Runs}
 use Rattle.native_image.specs.declared.handed.Shared.{Shared}
-use Rattle.turn_returns.specs.declared.turn.Turn.{Turn}
-use Rattle.js_steps.specs.declared.answer.Stop.TheVariants as stop
+use Rattle.turn_dispatch.specs.declared.turn.Turn.{Turn}
+use Rattle.turn_dispatch.specs.Stop.TheVariants as stop
 use Rattle.turn_steps.specs.declared.turn.TurnEnd.{TurnEnd}
 use Rattle.turn_steps.specs.declared.turn.TurnEnd.TheVariants as ended
 use Rattle.turn_steps.specs.declared.turn.Ran.{Ran}

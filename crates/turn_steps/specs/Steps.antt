@@ -10,11 +10,11 @@ use Rattle.js_flow.specs.declared.job.Completion.{Completion}
 use Rattle.js_flow.specs.Free.{free}
 use Rattle.js_flow.specs.Todo.{Moves, Strides, after_step}
 use Rattle.js_flow.specs.Views.{completion_of}
-use Rattle.js_steps.specs.declared.answer.Stepped.{Stepped}
-use Rattle.js_steps.specs.declared.answer.Stepped.TheVariants as stepped
-use Rattle.js_steps.specs.declared.answer.Stop.TheVariants as stop
-use Rattle.js_steps.specs.declared.task.Task.{Task}
-use Rattle.js_steps.specs.Answered.{IsFineAfter, machine}
+use Rattle.turn_dispatch.specs.Stepped.{Stepped}
+use Rattle.turn_dispatch.specs.Stepped.TheVariants as stepped
+use Rattle.turn_dispatch.specs.Stop.TheVariants as stop
+use Rattle.turn_dispatch.specs.Task.{Task}
+use Rattle.turn_dispatch.specs.Answered.{IsFineAfter, machine}
 use Rattle.js_values.specs.Answers.{out_of_fuel}
 use Rattle.js_values.specs.Fuel.{Fuel}
 use Rattle.native_image.specs.Image.{Outside}
@@ -23,12 +23,12 @@ use Rattle.turn_dispatch.specs.declared.level.Doing.TheVariants as doing
 use Rattle.turn_dispatch.specs.declared.level.Hearing.{Hearing}
 use Rattle.turn_dispatch.specs.Held.{FineDoing, FineHearing}
 use Rattle.turn_dispatch.specs.Levels.{hearing_of, levels_rest, turn_plan}
-use Rattle.turn_returns.specs.declared.calls.Calls.{Calls}
-use Rattle.turn_returns.specs.Turns.{turn_image}
-use Rattle.turn_returns.specs.Waiting.{FineLevels}
-use Rattle.turn_returns.specs.Weights.{doing_free, levels_free}
+use Rattle.turn_dispatch.specs.declared.calls.Calls.{Calls}
+use Rattle.turn_dispatch.specs.Turns.{turn_image}
+use Rattle.turn_dispatch.specs.Waiting.{FineLevels}
+use Rattle.turn_dispatch.specs.Weights.{doing_free, levels_free}
 use Rattle.native_image.specs.declared.handed.Shared.{Shared}
-use Rattle.turn_returns.specs.declared.turn.Turn.{Turn}
+use Rattle.turn_dispatch.specs.declared.turn.Turn.{Turn}
 use Rattle.native_image.specs.declared.handed.Widget.{Widget}
 use Rattle.turn_steps.specs.declared.moving.Moved.{Moved}
 use Rattle.turn_steps.specs.Turning.{FineTurn, forests, plan_in, state_in}

@@ -10,7 +10,7 @@ use Rattle.js_image.specs.Plans.{meant_cause}
 use Rattle.js_names.specs.Code.{trees_of}
 use Rattle.js_flow.specs.Views.{completion_of}
 use Rattle.js_flow.specs.Fine.{FineCompletion}
-use Rattle.js_steps.specs.declared.answer.Stop.TheVariants as stop
+use Rattle.turn_dispatch.specs.Stop.TheVariants as stop
 use Rattle.native_image.specs.Image.{Outside}
 use Rattle.native_image.specs.Sound.{IsSound}
 use Rattle.natives.specs.Reach.{with_notes}
@@ -18,10 +18,10 @@ use Rattle.life_laws.specs.Life as life
 use Rattle.life_laws.specs.Life.{Fixed}
 use Rattle.turn_dispatch.specs.Held.{FineDoing}
 use Rattle.turn_dispatch.specs.Levels.{turn_plan}
-use Rattle.turn_returns.specs.Turns.{turn_image}
-use Rattle.turn_returns.specs.Waiting.{FineLevels}
+use Rattle.turn_dispatch.specs.Turns.{turn_image}
+use Rattle.turn_dispatch.specs.Waiting.{FineLevels}
 use Rattle.native_image.specs.declared.handed.Shared.{Shared}
-use Rattle.turn_returns.specs.declared.turn.Turn.{Turn}
+use Rattle.turn_dispatch.specs.declared.turn.Turn.{Turn}
 use Rattle.turn_steps.specs.declared.turn.TurnEnd.{TurnEnd}
 use Rattle.turn_steps.specs.declared.turn.TurnEnd.TheVariants as ended
 use Rattle.native_image.specs.declared.handed.Widget.{Widget}

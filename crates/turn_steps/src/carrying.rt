@@ -1,7 +1,7 @@
 //! A native that a turn carries out, and what its answer comes to.
 ghost use Rattle.std.specs.Prelude.{◌≡◌, false, IfOk, None, OnOk, reverse, drop};
 ghost use Rattle.plan_ends.specs.Ends.{ByValue};
-ghost use Rattle.js_steps.specs.Ending.{Awaits};
+ghost use Rattle.turn_dispatch.specs.Ending.{Awaits};
 ghost use Rattle.js_flow.specs.Fine.{FineFrames, FineNative};
 ghost use Rattle.js_values.specs.Answers.{IsCarried, IsFineOut};
 ghost use Rattle.native_image.specs.Image.{beside, dispatches_of};
@@ -11,8 +11,8 @@ ghost use Rattle.js_values.specs.declared.outcome.NativeOut.TheVariants as nativ
 ghost use Rattle.js_values.specs.declared.outcome.Plan.TheVariants as native_calls;
 ghost use Rattle.turn_dispatch.specs.Held.{FineDoing};
 ghost use Rattle.turn_dispatch.specs.declared.level.Doing.TheVariants as doing;
-ghost use Rattle.turn_returns.specs.Turns.{bubbled_of};
-ghost use Rattle.turn_returns.specs.Waiting.{FineFiring, FineLevels};
+ghost use Rattle.turn_dispatch.specs.Turns.{bubbled_of};
+ghost use Rattle.turn_dispatch.specs.Waiting.{FineFiring, FineLevels};
 ghost use Rattle.turn_steps.specs.Keeping.{Keeps};
 ghost use Rattle.turn_steps.specs.Carrying.{IsAnswered, IsPerformed, is_fire, is_wanting};
 ghost use Rattle.turn_steps.specs.Steps.{IsMoved};
@@ -21,13 +21,11 @@ ghost use Rattle.turn_steps.specs.Turning.{FineWidget, forests};
 use crate::moving::{Moved, follow};
 use code_units::Memory;
 use js_flow::{Completion, Control, NativeCall};
-use js_steps::{Task, resume};
 use js_values::{Meter, NativeOut, Plan};
 use native_image::{Shared, Widget};
 use natives::call;
 use object_store::Value;
-use turn_dispatch::{Doing, Firing, Level, Site};
-use turn_returns::{Calls, give};
+use turn_dispatch::{Calls, Doing, Firing, Level, Site, Task, give, resume};
 
 // Whether `bubble` was called in the innermost open dispatch, if one is open.
 fn innermost(dispatches: &Vec<bool>) -> Option<bool>

@@ -3,15 +3,15 @@ ghost use Rattle.std.specs.Prelude.{◌≡◌, ◌<◌, ◌≤◌, IfOk, List, O
 ghost use Rattle.std.specs.Global.{Box as BoxOf};
 ghost use Rattle.js_tree.specs.Forest.{Forest};
 ghost use Rattle.js_image.specs.declared.outcome.StopCause.{StopCause};
-ghost use Rattle.js_steps.specs.Ending.{FineEnd};
+ghost use Rattle.turn_dispatch.specs.Ending.{FineEnd};
 ghost use Rattle.js_flow.specs.Todo.{Follows};
-ghost use Rattle.js_steps.specs.Answered.{IsFineAfter, machine};
-ghost use Rattle.js_steps.specs.declared.task.Task.{Task as TaskOf};
+ghost use Rattle.turn_dispatch.specs.Answered.{IsFineAfter, machine};
+ghost use Rattle.turn_dispatch.specs.Task.{Task as TaskOf};
 ghost use Rattle.native_image.specs.Sound.{IsSound};
 ghost use Rattle.turn_dispatch.specs.Held.{FineDoing};
 ghost use Rattle.turn_dispatch.specs.declared.level.Doing.TheVariants as doing;
-ghost use Rattle.turn_returns.specs.Took.{StaysSound};
-ghost use Rattle.turn_returns.specs.Waiting.{FineLevels};
+ghost use Rattle.turn_dispatch.specs.Took.{StaysSound};
+ghost use Rattle.turn_dispatch.specs.Waiting.{FineLevels};
 ghost use Rattle.turn_steps.specs.Keeping.{Keeps};
 ghost use Rattle.turn_steps.specs.Steps.{IsBegun, IsFollowed, IsGiven, IsMoved, IsStepped, is_open, is_short, runs};
 ghost use Rattle.turn_steps.specs.Turning.{FineTurn, FineWidget, forests};
@@ -19,15 +19,14 @@ ghost use Rattle.turn_steps.specs.Turning.{FineTurn, FineWidget, forests};
 use crate::carrying::carry;
 use code_units::Memory;
 use js_flow::Completion;
-use js_steps::{Stepped, Stop, Task, stride};
 use js_values::Meter;
-use native_common::WidgetId;
-use native_image::{Shared, Widget};
+use native_image::{Shared, Widget, WidgetId};
 use object_store::Store;
 use std::alloc::Global;
 use std::mem;
-use turn_dispatch::{Doing, Hearing, Level, Site};
-use turn_returns::{Calls, Turn, call_handler, give};
+use turn_dispatch::{
+    Calls, Doing, Hearing, Level, Site, Stepped, Stop, Task, Turn, call_handler, give, stride,
+};
 
 /// What a turn does after a step, and whether the step wanted fuel that is not there.
 #[derive(Drop)]

@@ -12,10 +12,8 @@ ghost use Rattle.turn_steps.specs.Turning.{FineEnd, FineTurn, FineWidget};
 use crate::moving::{move_on, take};
 use crate::turn::{Ran, TurnEnd};
 use code_units::Memory;
-use js_steps::Stop;
 use native_image::{Shared, Widget};
-use turn_dispatch::Doing;
-use turn_returns::Turn;
+use turn_dispatch::{Doing, Stop, Turn};
 
 // Whether a turn is not over.
 fn is_open(doing: &Doing) -> bool

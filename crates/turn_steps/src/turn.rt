@@ -1,7 +1,7 @@
 //! How turns end.
 
 use js_flow::Completion;
-use js_steps::Stop;
+use turn_dispatch::Stop;
 
 /// How a turn ended: by how its last call ended, or by a stop.
 #[derive(Drop)]

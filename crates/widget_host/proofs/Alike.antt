@@ -4,7 +4,7 @@ use Rattle.std.specs.Prelude.{slice_get}
 use Rattle.native_image.specs.declared.handed.Shared.{Shared}
 use Rattle.slot_picks.specs.declared.lives.Place.{Place}
 use Rattle.slot_picks.specs.Places.{OwnPlace, OwnPlaces, accepts_of, codes_of, homes_of, roots_of}
-use Rattle.slot_rounds.specs.Posting.{AreAlike, IsAlike}
+use Rattle.slot_picks.specs.Posting.{AreAlike, IsAlike}
 use Rattle.widget_host.specs.Feeding.{AreSame, IsSame}
 
 is_alike : (l m : Place) → IsSame l m → IsAlike l m

@@ -11,11 +11,11 @@ use Rattle.std.specs.Option.{option_map}
 use Rattle.js_names.specs.declared.code.Code.{Code}
 use Rattle.js_names.specs.Code.{tree_in}
 use Rattle.life_laws.specs.Life.{Seen, due, image}
-use Rattle.pick_laws.specs.Journal.{AllJoined, on_at}
-use Rattle.slot_laws.specs.Chains.{Chains, Unspent, joins, last_at, last_life, listed}
-use Rattle.slot_laws.proofs.Giving.{chains_join}
-use Rattle.slot_laws.proofs.Housing.{joined_swap, rest_swap, unspent_swap}
-use Rattle.slot_laws.specs.Settled.{flag}
+use Rattle.life_laws.specs.Journal.{AllJoined, on_at}
+use Rattle.life_laws.specs.Chains.{Chains, Unspent, joins, last_at, last_life, listed}
+use Rattle.life_laws.proofs.Giving.{chains_join}
+use Rattle.life_laws.proofs.Housing.{joined_swap, rest_swap, unspent_swap}
+use Rattle.life_laws.specs.Settled.{flag}
 use Rattle.widget_meaning.specs.OwnState.{OwnState}
 use Rattle.widget_meaning.specs.Alone.{Content}
 use Rattle.page_nodes.specs.Entries.{body}
@@ -23,14 +23,14 @@ use Rattle.page_image.specs.Image.{root_of}
 use Rattle.page_build.specs.Layout.{IsLot, lot_of}
 use Rattle.page_build.specs.Standing.{IsLaidBy}
 use Rattle.page_build.proofs.Stands.{laid_older}
-use Rattle.slot_rounds.specs.Feeding.{sum_of}
+use Rattle.slot_picks.specs.Feeding.{sum_of}
 use Rattle.slot_picks.specs.declared.lives.Lives.{Lives}
 use Rattle.slot_picks.specs.declared.lives.Place.{Place}
 use Rattle.slot_picks.specs.declared.slots.Slot.{Slot}
 use Rattle.slot_picks.specs.Lives.{AreHoused, AreStanding, FewLives, chains_of, present_of, seens_of, spots_of}
 use Rattle.slot_picks.specs.Places.{FewPlaces, accepts_of, codes_of, homes_of, is_accepted, lent, roots_of, seen_at, told_of}
 use Rattle.native_image.specs.declared.handed.Shared.{Shared}
-use Rattle.life_queue.specs.Lives.{life_seen}
+use Rattle.slot_picks.specs.QueueLives.{life_seen}
 use Rattle.page_load.specs.Joining.{Comes, HasSeat, IsFree, KeepsRest, PageJoins, came, none_came}
 use Rattle.page_load.specs.Loads.{HasNothing, IsFirstLife}
 use Rattle.page_build.proofs.Coming.{same_joins}

@@ -2,9 +2,9 @@
 use Rattle.std.proofs.Common.{◌≡◌, ◌≢◌, ◌≤◌, ℕ, zero, suc, ◌+◌, ◌<◌, ◌++◌, List, [], ◌∷◌, map, length, Bool, true, false, refl, sym, ap, ◌∙◌, subst, arith, Some, None, eqb, eqb-true, eq-eqb, if◌then◌else◌, inl, inr, ◌⊎◌, ⊎_elim}
 use Rattle.std.specs.Prelude.{slice_get, slice_set, slice_index_or, nat_eq, ◌||◌}
 use Rattle.std.specs.List.{list_any}
-use Rattle.slot_laws.specs.Slots.{Each, has}
-use Rattle.slot_laws.specs.Chains.{Chains, joins, listed}
-use Rattle.pick_laws.specs.Journal.{on_at}
+use Rattle.life_laws.specs.Slots.{Each, has}
+use Rattle.life_laws.specs.Chains.{Chains, joins, listed}
+use Rattle.life_laws.specs.Journal.{on_at}
 use Rattle.page_tree.specs.declared.page.Page.{Page}
 use Rattle.page_nodes.specs.Entries.{body}
 use Rattle.page_tree.specs.Pages.{nodes}

@@ -8,14 +8,14 @@ use Rattle.js_tree.specs.Forest.{Forest}
 use Rattle.widget_meaning.specs.Items.{Item, item}
 use Rattle.life_laws.specs.Life as todo
 use Rattle.life_laws.specs.Life.{Seen, due, image, potential, potentials}
-use Rattle.pick_laws.specs.Journal.{queued}
-use Rattle.pick_laws.proofs.Given.{due_queued}
+use Rattle.life_laws.specs.Journal.{queued}
+use Rattle.life_laws.proofs.Given.{due_queued}
 use Rattle.native_image.specs.declared.handed.Shared.{Shared}
 use Rattle.slot_picks.specs.declared.lives.Place.{Place}
-use Rattle.life_queue.specs.declared.life.Work.{Work}
-use Rattle.life_queue.specs.Lives.{life_seen, trees_in, work_of, works_of}
-use Rattle.life_queue.specs.Fine.{FineLife, FineWork, tally}
-use Rattle.slot_laws.specs.Chains.{Chains, last_life}
+use Rattle.slot_picks.specs.life.Work.{Work}
+use Rattle.slot_picks.specs.QueueLives.{life_seen, trees_in, work_of, works_of}
+use Rattle.slot_picks.specs.Fine.{FineLife, FineWork, tally}
+use Rattle.life_laws.specs.Chains.{Chains, last_life}
 use Rattle.slot_picks.specs.declared.slots.Slot.{Slot}
 use Rattle.slot_picks.specs.Lives.{chains_of}
 use Rattle.slot_picks.specs.Places.{FewPlace, FewPlaces, FinePlace, FinePlaces, lent, seen_at, seens_from, told_of}

@@ -9,12 +9,12 @@ use Rattle.std.proofs.lemmas.List.{length-map}
 use Rattle.widget_meaning.specs.OwnState.{OwnState}
 use Rattle.widget_meaning.specs.Alone.{Content, beginning, loaded}
 use Rattle.life_laws.specs.Life.{Seen, due, image, ready}
-use Rattle.pick_laws.specs.Journal.{AllJoined}
-use Rattle.slot_laws.specs.Chains.{Chains, Rest, Unspent, listed}
-use Rattle.slot_laws.specs.Settled.{flag}
+use Rattle.life_laws.specs.Journal.{AllJoined}
+use Rattle.life_laws.specs.Chains.{Chains, Rest, Unspent, listed}
+use Rattle.life_laws.specs.Settled.{flag}
 use Rattle.native_image.specs.declared.handed.Shared.{Shared}
 use Rattle.slot_picks.specs.declared.lives.Place.{Place}
-use Rattle.life_queue.specs.Lives.{life_seen}
+use Rattle.slot_picks.specs.QueueLives.{life_seen}
 use Rattle.slot_picks.specs.Places.{FewPlace, FewPlaces, FinePlace, FinePlaces, OwnPlaces, accepts_of, codes_of, homes_of, lent, roots_of, seen_at, seens_from, told_of}
 use Rattle.slot_picks.specs.declared.slots.Slot.{Slot}
 use Rattle.slot_picks.specs.declared.lives.Lives.{Lives}
@@ -28,7 +28,7 @@ use Rattle.page_plan.specs.declared.SlotSpec.{SlotSpec}
 use Rattle.page_plan.specs.Contents.{content_of}
 use Rattle.page_plan.specs.Loadable.{names_of}
 use Rattle.page_plan.specs.Pages.{piece_of}
-use Rattle.slot_rounds.specs.Feeding.{sum_of}
+use Rattle.slot_picks.specs.Feeding.{sum_of}
 use Rattle.page_load.specs.declared.loading.Loaded.{Loaded}
 use Rattle.page_load.specs.Loads.{Begins, HasNothing, HasScripts, IsFirstLife, LoadsPage, singles}
 use Rattle.widget_host.specs.declared.host.Host.{Host}

@@ -5,20 +5,20 @@ use Rattle.std.proofs.Math.Nat.{div-le_of_le-mul}
 use Rattle.js_tree.specs.Forest.{Forest}
 use Rattle.life_laws.specs.Life as todo
 use Rattle.life_laws.specs.Life.{Seen, due, image, potential}
-use Rattle.pick_laws.specs.Journal.{AllJoined}
-use Rattle.pick_laws.proofs.Given.{joined_given}
-use Rattle.slot_laws.specs.Chains.{Chains, Rest, Unspent}
-use Rattle.slot_laws.proofs.Housing.{unspent_given}
+use Rattle.life_laws.specs.Journal.{AllJoined}
+use Rattle.life_laws.proofs.Given.{joined_given}
+use Rattle.life_laws.specs.Chains.{Chains, Rest, Unspent}
+use Rattle.life_laws.proofs.Housing.{unspent_given}
 use Rattle.native_image.specs.declared.handed.Shared.{Shared}
 use Rattle.slot_picks.specs.declared.lives.Place.{Place}
-use Rattle.life_queue.specs.Lives as queue
-use Rattle.life_queue.specs.Fine.{FineWork}
+use Rattle.slot_picks.specs.QueueLives as queue
+use Rattle.slot_picks.specs.Fine.{FineWork}
 use Rattle.page_build.specs.Homes.{HaveRaws}
 use Rattle.page_nodes.specs.Entries.{body}
 use Rattle.slot_picks.specs.Places.{FewPlaces, FinePlaces, homes_of, seens_from, told_of}
 use Rattle.slot_picks.specs.declared.slots.Slot.{Slot}
 use Rattle.slot_picks.specs.Lives.{FewLives, FineLives, KeepsSlots, chains_of, seens_of}
-use Rattle.slot_rounds.specs.Feeding.{sum_of}
+use Rattle.slot_picks.specs.Feeding.{sum_of}
 use Rattle.widget_host.specs.declared.host.Host.{Host}
 use Rattle.widget_host.specs.declared.items.HostItem.{HostItem}
 use Rattle.widget_host.specs.declared.items.HostItem.TheVariants as host

@@ -2,8 +2,8 @@
 use Rattle.std.proofs.Common.{◌≡◌, ◌≢◌, ℕ, zero, suc, ◌+◌, ◌<◌, ◌≤◌, List, [], ◌∷◌, length, take, Bool, true, false, refl, sym, ap, ◌∙◌, subst, arith, Some, ne_eqb}
 use Rattle.std.specs.Prelude.{slice_get, nat_eq, if◌then◌else◌, ◌||◌}
 use Rattle.std.specs.List.{list_any}
-use Rattle.slot_laws.specs.Slots.{Each, has}
-use Rattle.slot_laws.specs.Chains.{Chains, IsChain, last_at, last_from, last_life, listed}
+use Rattle.life_laws.specs.Slots.{Each, has}
+use Rattle.life_laws.specs.Chains.{Chains, IsChain, last_at, last_from, last_life, listed}
 use Rattle.slot_picks.specs.declared.slots.Slot.{Slot}
 use Rattle.slot_picks.specs.Lives.{chains_of}
 use Rattle.widget_host.specs.declared.items.HostItem.{HostItem}

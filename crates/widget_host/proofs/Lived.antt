@@ -14,13 +14,13 @@ use Rattle.page_plan.specs.declared.SlotContent.{SlotContent}
 use Rattle.page_plan.specs.declared.SlotContent.TheVariants as slot
 use Rattle.page_plan.specs.declared.SlotSpec.{SlotSpec}
 use Rattle.page_plan.specs.Contents.{content_of, content_in}
-use Rattle.pick_laws.specs.Journal.{on_at}
-use Rattle.round_laws.specs.Fed.{Fed, state}
-use Rattle.round_laws.specs.RoundLaws.{fed_at}
-use Rattle.slot_laws.specs.Slots.{has}
-use Rattle.slot_laws.specs.Chains.{Chains, IsChain, joins, last_at, last_from, last_life, listed}
-use Rattle.slot_rounds.specs.Feeding as feeding
-use Rattle.slot_rounds.specs.Feeding.{IsLastFed, IsLastShown, is_last}
+use Rattle.life_laws.specs.Journal.{on_at}
+use Rattle.life_laws.specs.Fed.{Fed, state}
+use Rattle.life_laws.specs.RoundLaws.{fed_at}
+use Rattle.life_laws.specs.Slots.{has}
+use Rattle.life_laws.specs.Chains.{Chains, IsChain, joins, last_at, last_from, last_life, listed}
+use Rattle.slot_picks.specs.Feeding as feeding
+use Rattle.slot_picks.specs.Feeding.{IsLastFed, IsLastShown, is_last}
 use Rattle.page_load.specs.Loads.{singles}
 use Rattle.slot_picks.specs.declared.lives.Place.{Place}
 use Rattle.slot_picks.specs.Places.{homes_of, seen_at, seens_from}

@@ -10,8 +10,8 @@ use Rattle.page_plan.specs.Pages.{PagePiece, root_of, roots}
 use Rattle.page_tree.specs.declared.page.Page.{Page}
 use Rattle.page_nodes.specs.Entries.{body}
 use Rattle.page_tree.specs.Pages.{nodes}
-use Rattle.slot_laws.specs.Chains.{IsChain}
-use Rattle.slot_laws.specs.Slots.{Each}
+use Rattle.life_laws.specs.Chains.{IsChain}
+use Rattle.life_laws.specs.Slots.{Each}
 use Rattle.widget_meaning.specs.OwnState.{OwnState}
 use Rattle.slot_picks.specs.declared.lives.Place.{Place}
 use Rattle.slot_picks.specs.declared.slots.Slot.{Slot}

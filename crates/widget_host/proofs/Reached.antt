@@ -1,6 +1,6 @@
 -- The certificate of reach of a host.
 use Rattle.std.proofs.Common.{List, [], ◌∷◌, arith, Option, Some, None}
-use Rattle.slot_laws.specs.Chains.{last_life}
+use Rattle.life_laws.specs.Chains.{last_life}
 use Rattle.slot_picks.specs.Lives.{chains_of}
 use Rattle.slot_picks.specs.declared.slots.Slot.{Slot}
 use Rattle.slot_reach.specs.Lasts.{AreFew, AreLast, IsLast}

@@ -17,9 +17,9 @@ use Rattle.js_image.specs.Held.{IsConfined}
 use Rattle.life_laws.specs.Life.{Going, Seen, image, shown}
 use Rattle.native_image.specs.declared.handed.Shared.{Shared}
 use Rattle.slot_picks.specs.declared.lives.Place.{Place}
-use Rattle.life_queue.specs.Turn.{Turn}
-use Rattle.life_queue.specs.Fine.{FineTurn}
-use Rattle.life_queue.specs.Lives.{going_of, life_seen, own_of, trees_in}
+use Rattle.slot_picks.specs.Turn.{Turn}
+use Rattle.slot_picks.specs.Fine.{FineTurn}
+use Rattle.slot_picks.specs.QueueLives.{going_of, life_seen, own_of, trees_in}
 use Rattle.slot_picks.specs.Places.{HoldsItsOwn, accepts_of, codes_of, lent}
 use Rattle.widget_host.specs.declared.host.Host.{Host}
 use Rattle.widget_host.specs.Housed.{IsHoused, IsWhole, accepts, own_trees, scripts, seens}

@@ -9,29 +9,29 @@ use Rattle.js_names.specs.Code.{tree_in}
 use Rattle.std.specs.declared.alloc.Global.{Global}
 use Rattle.std.specs.declared.vec.Vec.{Vec}
 use Rattle.life_laws.specs.Life.{image}
-use Rattle.pick_laws.specs.Journal.{AllJoined}
-use Rattle.pick_laws.proofs.Given.{joined_given}
+use Rattle.life_laws.specs.Journal.{AllJoined}
+use Rattle.life_laws.proofs.Given.{joined_given}
 use Rattle.post_rounds.specs.declared.posts.Post.{Post}
 use Rattle.post_rounds.specs.News.{all_news, news, news_from}
 use Rattle.page_build.specs.Homes.{HaveRaws}
 use Rattle.page_build.specs.Standing.{IsLaidBy, PagePasses}
 use Rattle.page_nodes.specs.Entries.{body}
-use Rattle.round_laws.specs.Fed.{Fed, round}
-use Rattle.slot_laws.specs.Chains.{Chains, Rest, Unspent, last_life}
-use Rattle.slot_laws.proofs.Housing.{unspent_given}
+use Rattle.life_laws.specs.Fed.{Fed, round}
+use Rattle.life_laws.specs.Chains.{Chains, Rest, Unspent, last_life}
+use Rattle.life_laws.proofs.Housing.{unspent_given}
 use Rattle.native_image.specs.declared.handed.Shared.{Shared}
 use Rattle.page_load.specs.Loads.{HasNothing}
 use Rattle.slot_picks.specs.declared.lives.Place.{Place}
 use Rattle.slot_picks.specs.declared.slots.Slot.{Slot}
 use Rattle.slot_picks.specs.Places.{FewPlaces, FinePlaces, OwnPlaces, homes_of, is_accepted, seens_from, told_of}
 use Rattle.slot_picks.specs.Lives.{AreStanding, FewLives, FineLives, KeepsSlots, chains_of, seens_of, spots_of}
-use Rattle.slot_rounds.specs.Feeding as feeding
-use Rattle.slot_rounds.specs.Feeding.{Delivers, HaveDone, counts_for, events_for, gets, is_last, sum_of, told_more, with_more}
-use Rattle.slot_rounds.specs.Posting.{AreAlike, GivesRound, HaveRound, IsRound, WereGiven, fresh_of_lasts}
-use Rattle.slot_rounds.proofs.Taken.{few_news, sum_taken}
-use Rattle.slot_rounds.proofs.Looping.{others_stay}
-use Rattle.slot_rounds.proofs.Seen.{seens_round, told_round}
-use Rattle.slot_rounds.proofs.Sound.{counts_round, few_events, images_more, long_round, places_round}
+use Rattle.slot_picks.specs.Feeding as feeding
+use Rattle.slot_picks.specs.Feeding.{Delivers, HaveDone, counts_for, events_for, gets, is_last, sum_of, told_more, with_more}
+use Rattle.slot_picks.specs.Posting.{AreAlike, GivesRound, HaveRound, IsRound, WereGiven, fresh_of_lasts}
+use Rattle.slot_picks.proofs.Taken.{few_news, sum_taken}
+use Rattle.slot_picks.proofs.Looping.{others_stay}
+use Rattle.slot_picks.proofs.Seen.{seens_round, told_round}
+use Rattle.slot_picks.proofs.Sound.{counts_round, few_events, images_more, long_round, places_round}
 use Rattle.widget_host.specs.declared.host.Host.{Host}
 use Rattle.widget_host.specs.Housed.{IsApart, IsLaid, IsWhole, KeepsHost, accepts, chains, channels, ends, fuels, homes, libraries, most_after, names, scripts, seens, shared, spots, swaps, told}
 use Rattle.widget_host.specs.Rounds.{AreFed}

@@ -1,7 +1,7 @@
 -- Lives that are as they were but for their queues, and for how many of their posts were taken, keep all else that picks keep.
 use Rattle.std.proofs.Common.{◌≡◌, ◌≤◌, List, map, length, refl, sym, ap, ◌∙◌, subst, Some, None}
 use Rattle.std.proofs.lemmas.List.{length-map}
-use Rattle.slot_laws.specs.Chains.{Chains}
+use Rattle.life_laws.specs.Chains.{Chains}
 use Rattle.std.specs.Prelude.{slice_get, slice_index_or}
 use Rattle.page_nodes.specs.Entries.{body}
 use Rattle.page_image.specs.Image.{own, root_of}
@@ -16,7 +16,7 @@ use Rattle.slot_picks.specs.declared.lives.Place.{Place}
 use Rattle.slot_picks.specs.declared.slots.Slot.{Slot}
 use Rattle.slot_picks.specs.Lives.{AreStanding, KeepsLives, KeepsSlots, chains_of, present_of, spots_of}
 use Rattle.slot_picks.specs.Places.{OwnPlaces, told_of}
-use Rattle.slot_rounds.specs.Posting.{AreAlike}
+use Rattle.slot_picks.specs.Posting.{AreAlike}
 use Rattle.widget_host.proofs.Alike.{accepts_alike, codes_alike, homes_alike, own_alike, roots_alike, was_at}
 
 module _ (c d : Lives) (all : d.shared ≡ c.shared) (same : AreAlike c.places.items d.places.items) where

@@ -1,7 +1,7 @@
 -- Lists with another element at a place.
 use Rattle.std.proofs.Common.{◌≡◌, ◌≢◌, ℕ, zero, suc, ◌<◌, List, [], ◌∷◌, map, length, refl, sym, ap, ◌∙◌, arith, Some, None}
 use Rattle.std.specs.Prelude.{Err, Ok, OnErr, Result, slice_get, slice_set, slice_index_or}
-use Rattle.pick_laws.specs.Journal.{on_at}
+use Rattle.life_laws.specs.Journal.{on_at}
 
 pub some_is : {A : Type 0} (x y : A) → Some x ≡ Some y → x ≡ y
 some_is x y e = cc

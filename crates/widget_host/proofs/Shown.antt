@@ -10,10 +10,10 @@ use Rattle.widget_meaning.specs.OwnState.{OwnState}
 use Rattle.native_image.specs.declared.handed.Shared.{Shared}
 use Rattle.slot_picks.specs.declared.lives.Lives.{Lives}
 use Rattle.slot_picks.specs.declared.lives.Place.{Place}
-use Rattle.life_queue.specs.Lives.{going_of, life_seen, own_of}
+use Rattle.slot_picks.specs.QueueLives.{going_of, life_seen, own_of}
 use Rattle.slot_picks.specs.declared.slots.Slot.{Slot}
 use Rattle.slot_picks.specs.Lives.{chains_of, present_of, seens_of}
-use Rattle.slot_laws.specs.Chains.{IsChain}
+use Rattle.life_laws.specs.Chains.{IsChain}
 use Rattle.slot_picks.specs.Places.{FinePlace, FinePlaces, OwnPlace, OwnPlaces, accepts_of, homes_of, is_accepted, lent, seen_at, seens_from}
 use Rattle.widget_host.specs.declared.host.Host.{Host}
 use Rattle.widget_host.specs.declared.lines.RunLine.{RunLine}

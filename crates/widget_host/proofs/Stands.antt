@@ -3,8 +3,8 @@ use Rattle.std.proofs.Common.{◌≡◌, ◌≢◌, ℕ, zero, suc, ◌+◌, ◌
 use Rattle.std.specs.Prelude.{slice_get, slice_index_or, nat_eq, ◌||◌}
 use Rattle.std.specs.Option.{option_map}
 use Rattle.std.proofs.lemmas.Option.{get_or_from_slice_get, slice_get-map}
-use Rattle.slot_laws.specs.Chains.{Chains, IsChain}
-use Rattle.slot_laws.specs.Slots.{Each}
+use Rattle.life_laws.specs.Chains.{Chains, IsChain}
+use Rattle.life_laws.specs.Slots.{Each}
 use Rattle.code_units.specs.declared.owner.Owner.TheVariants as owner
 use Rattle.page_tree.specs.declared.page.Page.{Page}
 use Rattle.page_nodes.specs.Owners.{same_owner}

@@ -3,13 +3,13 @@ use Rattle.std.proofs.Common.{◌≡◌, ℕ, zero, suc, Bool, true, false, List
 use Rattle.std.specs.Prelude.{Err, IsErr, Ok, Result, is_ok, slice_get}
 use Rattle.std.specs.Option.{option_map}
 use Rattle.life_laws.specs.Life.{Seen, due, image}
-use Rattle.round_laws.specs.Fed.{Fed, IsQuiet, RoundsTo, again, ended, round, state}
-use Rattle.slot_laws.specs.Chains.{last_life}
-use Rattle.slot_laws.specs.Settled.{SettledSlots}
+use Rattle.life_laws.specs.Fed.{Fed, IsQuiet, RoundsTo, again, ended, round, state}
+use Rattle.life_laws.specs.Chains.{last_life}
+use Rattle.life_laws.specs.Settled.{SettledSlots}
 use Rattle.turn_sched.specs.declared.chooser.Ask.{Ask}
-use Rattle.slot_rounds.specs.Feeding as feeding
-use Rattle.slot_rounds.specs.Feeding.{HaveDone, IsLastShown, is_last}
-use Rattle.slot_rounds.proofs.Looping.{fed_lasts, fed_stays, last_of_lasts, shown_all}
+use Rattle.slot_picks.specs.Feeding as feeding
+use Rattle.slot_picks.specs.Feeding.{HaveDone, IsLastShown, is_last}
+use Rattle.slot_picks.proofs.Looping.{fed_lasts, fed_stays, last_of_lasts, shown_all}
 use Rattle.widget_host.specs.declared.host.Host.{Host}
 use Rattle.widget_host.specs.Housed as housed
 use Rattle.widget_host.specs.Housed.{AreShown, HoldAll, KeepsHost, Passes, PassesUntil, WantsMemory, accepts, chains, channels, given, homes, journal, names, seens, told}

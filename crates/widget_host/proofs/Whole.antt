@@ -4,7 +4,7 @@ use Rattle.std.specs.Prelude.{slice_get, slice_index_or}
 use Rattle.page_nodes.specs.Entries.{body}
 use Rattle.slot_picks.specs.Lives.{AreHoused, FewLives, KeepsSlots}
 use Rattle.slot_picks.specs.Places.{told_of}
-use Rattle.slot_rounds.specs.Feeding.{sum_of}
+use Rattle.slot_picks.specs.Feeding.{sum_of}
 use Rattle.widget_host.specs.declared.host.Host.{Host}
 use Rattle.widget_host.specs.Housed.{IsApart, IsWhole, accepts, ends, fuels, most_after, swaps, told}
 use Rattle.widget_host.proofs.Raws.{own_raws, raws_stay}

@@ -1,7 +1,7 @@
 -- Works that are put into the queues of lives.
 use Rattle.std.specs.Prelude.{◌≡◌, ℕ, ◌+◌, ◌++◌, ◌&&◌, Bool, true, false, List, [], ◌∷◌}
-use Rattle.life_queue.specs.declared.life.Work.{Work}
-use Rattle.life_queue.specs.declared.life.Work.TheVariants as work
+use Rattle.slot_picks.specs.life.Work.{Work}
+use Rattle.slot_picks.specs.life.Work.TheVariants as work
 use Rattle.slot_picks.specs.declared.lives.Place.{Place}
 use Rattle.widget_host.specs.declared.items.HostItem.{HostItem}
 use Rattle.widget_host.specs.declared.items.HostItem.TheVariants as host

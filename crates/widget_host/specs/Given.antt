@@ -4,10 +4,10 @@ use Rattle.std.specs.Option.{option_map}
 use Rattle.adsafe_rules.specs.declared.accepted.Accepted.{Accepted}
 use Rattle.page_plan.specs.declared.SlotSpec.{SlotSpec}
 use Rattle.page_plan.specs.Contents.{content_of}
-use Rattle.round_laws.specs.Fed.{Fed}
-use Rattle.slot_laws.specs.Chains.{listed}
-use Rattle.slot_rounds.specs.Feeding.{IsLastFed, is_last}
-use Rattle.life_queue.specs.Lives.{event_of}
+use Rattle.life_laws.specs.Fed.{Fed}
+use Rattle.life_laws.specs.Chains.{listed}
+use Rattle.slot_picks.specs.Feeding.{IsLastFed, is_last}
+use Rattle.slot_picks.specs.QueueLives.{event_of}
 use Rattle.widget_meaning.specs.Alone.{Content}
 use Rattle.widget_meaning.specs.Items.{Item, Occurs, Advance}
 use Rattle.widget_meaning.specs.OwnState.{OwnState}

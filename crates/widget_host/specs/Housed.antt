@@ -13,12 +13,12 @@ use Rattle.js_image.specs.Plans.{meant_cause}
 use Rattle.adsafe_rules.specs.Accepts.{tree_of}
 use Rattle.life_laws.specs.Life.{Seen, due, image}
 use Rattle.page_nodes.specs.Entries.{body}
-use Rattle.pick_laws.specs.declared.entry.PickEntry.{PickEntry}
-use Rattle.pick_laws.specs.declared.entry.Picked.{Picked}
-use Rattle.pick_laws.specs.Journal.{on_at}
-use Rattle.slot_laws.specs.Slots.{IsTail, has}
-use Rattle.slot_laws.specs.Chains.{PickedIn, Unspent, joins, last_life, last_at}
-use Rattle.slot_rounds.specs.Feeding.{sum_of}
+use Rattle.life_laws.specs.declared.entry.PickEntry.{PickEntry}
+use Rattle.life_laws.specs.declared.entry.Picked.{Picked}
+use Rattle.life_laws.specs.Journal.{on_at}
+use Rattle.life_laws.specs.Slots.{IsTail, has}
+use Rattle.life_laws.specs.Chains.{PickedIn, Unspent, joins, last_life, last_at}
+use Rattle.slot_picks.specs.Feeding.{sum_of}
 use Rattle.slot_picks.specs.Places.{HoldsItsOwn, codes_of, homes_of, is_accepted, roots_of, told_of}
 use Rattle.slot_picks.specs.declared.lives.Place.{Place}
 use Rattle.slot_picks.specs.declared.slots.Slot.{Slot}
@@ -29,7 +29,7 @@ use Rattle.widget_meaning.specs.OwnState.{OwnState}
 use Rattle.widget_meaning.specs.Items.{Item, Occurs, Advance, item}
 use Rattle.widget_meaning.specs.Alone.{Content, beginning, loaded}
 use Rattle.native_image.specs.declared.handed.Shared.{Shared}
-use Rattle.life_queue.specs.Lives.{event_of}
+use Rattle.slot_picks.specs.QueueLives.{event_of}
 use Rattle.page_plan.specs.declared.PageSpec.{PageSpec}
 use Rattle.page_plan.specs.declared.SlotContent.{SlotContent}
 use Rattle.page_plan.specs.declared.SlotSpec.{SlotSpec}

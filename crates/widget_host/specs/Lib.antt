@@ -1,5 +1,6 @@
 pub use Rattle.slot_picks.specs.declared.lives.Place
 pub use Rattle.slot_picks.specs.Places
+pub use Rattle.slot_reach.specs.States
 pub mod Housed
 pub mod Feeding
 pub mod Shapes

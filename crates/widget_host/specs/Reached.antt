@@ -1,7 +1,7 @@
 -- What a host gives as its certificate of reach.
 use Rattle.std.specs.Prelude.{ℕ, List, [], ◌∷◌, map}
 use Rattle.reach_cert.specs.Certs as cert
-use Rattle.slot_laws.specs.Chains.{last_life}
+use Rattle.life_laws.specs.Chains.{last_life}
 use Rattle.slot_reach.specs.Lasts as slots
 use Rattle.widget_host.specs.declared.host.Host.{Host}
 

@@ -1,11 +1,11 @@
 -- Rounds of posts of a host.
 use Rattle.std.specs.Prelude.{◌≡◌, ℕ, Bool, true, false, List, map, slice_get, Option}
 use Rattle.life_laws.specs.Life.{image}
-use Rattle.pick_laws.specs.declared.entry.Picked.{Picked}
-use Rattle.slot_laws.specs.Chains.{PickedIn}
-use Rattle.round_laws.specs.Fed.{Fed}
-use Rattle.slot_rounds.specs.Feeding as feeding
-pub use Rattle.slot_rounds.specs.Feeding.{is_last}
+use Rattle.life_laws.specs.declared.entry.Picked.{Picked}
+use Rattle.life_laws.specs.Chains.{PickedIn}
+use Rattle.life_laws.specs.Fed.{Fed}
+use Rattle.slot_picks.specs.Feeding as feeding
+pub use Rattle.slot_picks.specs.Feeding.{is_last}
 use Rattle.widget_host.specs.declared.host.Host.{Host}
 use Rattle.widget_host.specs.Housed.{HoldAll, WantsMemory, accepts, chains, journal, seens, told}
 

@@ -2,8 +2,8 @@
 ghost use Rattle.std.specs.Prelude.{◌≡◌, ℕ, ◌<◌, ◌≤◌, IsErr, OnErr, OnOk, false, length, map, nat_eq, true};
 ghost use Rattle.std.specs.List.{list_any};
 ghost use Rattle.life_laws.specs.Life.{image};
-ghost use Rattle.life_queue.specs.declared.life.Work.TheVariants as work;
-ghost use Rattle.slot_laws.specs.Chains.{Chains, last_life};
+ghost use Rattle.slot_picks.specs.life.Work.TheVariants as work;
+ghost use Rattle.life_laws.specs.Chains.{Chains, last_life};
 ghost use Rattle.slot_picks.specs.Lives.{chains_of};
 ghost use Rattle.slot_picks.specs.Places.{homes_of};
 ghost use Rattle.widget_host.specs.Feeding.{AreFed, AreSame, IsFed, IsSame, work_of};
@@ -12,8 +12,7 @@ ghost use Rattle.widget_host.specs.Housed.{GivesItem, IsHoused, IsItem, KeepsHos
 use crate::host::Host;
 use crate::items::HostItem;
 use code_units::Memory;
-use life_queue::Work;
-use slot_picks::{Place, Slot};
+use slot_picks::{Place, Slot, Work};
 
 /// The life that is last in a slot.
 pub(crate) fn last_of(slot: &[u32]) -> u32

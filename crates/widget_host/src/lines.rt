@@ -1,19 +1,18 @@
 //! What a life did.
 ghost use Rattle.std.specs.Prelude.{◌≡◌, ◌<◌, ℕ, IfOk, IsErr, Some, true, option_map, slice_get, slice_index_or, length, false};
 ghost use Rattle.life_laws.specs.Life.{Seen, image};
-ghost use Rattle.slot_laws.specs.Chains.{listed};
+ghost use Rattle.life_laws.specs.Chains.{listed};
 ghost use Rattle.slot_picks.specs.Lives.{FineLives, seens_of};
 ghost use Rattle.slot_picks.specs.Places.{is_accepted};
-ghost use Rattle.life_queue.specs.Lives as life;
-ghost use Rattle.life_queue.specs.Lives.{life_seen};
+ghost use Rattle.slot_picks.specs.QueueLives as life;
+ghost use Rattle.slot_picks.specs.QueueLives.{life_seen};
 ghost use Rattle.native_image.specs.declared.handed.Shared.{Shared as SharedOf};
 ghost use Rattle.widget_host.specs.Housed.{IsHoused, IsLineOf, accepts, chains, ends, marked, meant_stop, present, seens, swaps};
 
 use crate::host::Host;
 use code_units::{Memory, Text};
 use js_image::StopCause;
-use life_queue::{Life, Stop};
-use slot_picks::{Lives, present, spent_at};
+use slot_picks::{Life, Lives, Stop, present, spent_at};
 use std::alloc::Global;
 
 /// Why a life has stopped: a turn had no fuel left, or a limit would have been passed.

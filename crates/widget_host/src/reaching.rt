@@ -1,12 +1,12 @@
 //! The certificate of reach of a host.
 ghost use Rattle.std.specs.Prelude.{◌≡◌, ◌<◌, List, [], IfOk, IsErr, Option, length, map, true};
 ghost use Rattle.std.specs.List.{list_all, zip};
-ghost use Rattle.pick_laws.specs.Journal.{ready_from};
+ghost use Rattle.life_laws.specs.Journal.{ready_from};
 ghost use Rattle.reach_cert.specs.Certs.{cert_lines, plain};
 ghost use Rattle.reach_cert.specs.Shape.{IsCert, is_name, slot_name};
 ghost use Rattle.reach_cert.specs.Walks.{IsConfined};
-ghost use Rattle.slot_laws.specs.Settled.{slot_flags};
-ghost use Rattle.state_reach.specs.States.{cert_of_states};
+ghost use Rattle.life_laws.specs.Settled.{slot_flags};
+ghost use Rattle.slot_reach.specs.States.{cert_of_states};
 ghost use Rattle.widget_host.specs.Housed.{AreShown, IsHoused, chains, marked, names, seens};
 ghost use Rattle.widget_host.specs.Reached.{lasts, reached};
 ghost use Rattle.widget_meaning.specs.OwnState.{OwnState};

@@ -3,18 +3,18 @@
 
 ghost use Rattle.std.specs.Prelude.{◌≡◌, ◌≢◌, ◌<◌, ℕ, List, [], ◌∷◌, IfOk, IsErr, OnErr, OnOk, Option, Some, false, is_ok, map, option_map, slice_get, true};
 ghost use Rattle.life_laws.specs.Life.{Seen, due, image};
-ghost use Rattle.pick_laws.specs.Journal.{ready_from};
-ghost use Rattle.round_laws.specs.Fed.{Fed, RoundsTo, state};
-ghost use Rattle.slot_laws.specs.Chains.{last_life};
-ghost use Rattle.slot_laws.specs.Settled.{SettledSlots, slot_flags};
-ghost use Rattle.slot_rounds.specs.Feeding.{Delivers, HaveDone, is_last, sum_of};
+ghost use Rattle.life_laws.specs.Journal.{ready_from};
+ghost use Rattle.life_laws.specs.Fed.{Fed, RoundsTo, state};
+ghost use Rattle.life_laws.specs.Chains.{last_life};
+ghost use Rattle.life_laws.specs.Settled.{SettledSlots, slot_flags};
+ghost use Rattle.slot_picks.specs.Feeding.{Delivers, HaveDone, is_last, sum_of};
 ghost use Rattle.widget_host.specs.Given.{AreEnded, AreRetired};
 ghost use Rattle.widget_host.specs.Housed.{AreShown, HoldAll, IsApart, IsHoused, IsWhole, KeepsHost, chains, channels, ends, given, homes, journal, marked, names, seens, told};
 ghost use Rattle.widget_host.specs.Rounds.{AreFed, PassesRoundsUntil};
 
 use crate::host::Host;
 use code_units::Memory;
-use slot_rounds::deliver_posts;
+use slot_picks::deliver_posts;
 use std::alloc::Global;
 use turn_sched::Chooser;
 

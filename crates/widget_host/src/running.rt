@@ -3,16 +3,16 @@
 
 ghost use Rattle.std.specs.Prelude.{◌≡◌, ◌+◌, ◌<◌, ◌∷◌, [], IfOk, IsErr, OnErr, OnOk, false, true, is_ok, length, map};
 ghost use Rattle.life_laws.specs.Life.{due, image};
-ghost use Rattle.pick_laws.specs.Journal.{ready_from};
-ghost use Rattle.slot_laws.specs.Chains.{PickedIn, last_life};
-ghost use Rattle.slot_laws.specs.Settled.{SettledSlots, slot_flags};
+ghost use Rattle.life_laws.specs.Journal.{ready_from};
+ghost use Rattle.life_laws.specs.Chains.{PickedIn, last_life};
+ghost use Rattle.life_laws.specs.Settled.{SettledSlots, slot_flags};
 ghost use Rattle.widget_host.specs.declared.host.Host.{Host as HostOf};
 ghost use Rattle.widget_host.specs.Housed.{GivesItem, IsHoused, IsItem, ItemPasses, KeepsBeside, KeepsHost, PassesUntil, chains, dues_after, given, homes, journal, marked, seens, told};
 
 use crate::host::Host;
 use crate::items::HostItem;
 use code_units::Memory;
-use pick_laws::Picked;
+use life_laws::Picked;
 use slot_picks::{pick_slot, settle_slots};
 use std::alloc::Global;
 use turn_sched::Chooser;

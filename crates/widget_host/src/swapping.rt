@@ -1,8 +1,8 @@
 //! A slot gets another file: its next life is born, and waits for its turn in the slot.
 ghost use Rattle.std.specs.Prelude.{◌≡◌, ◌<◌, ℕ, IsErr, List, OnErr, OnOk, Some, false, length, map, slice_get, true};
 ghost use Rattle.page_plan.specs.Loadable.{IsSwapLoadable};
-ghost use Rattle.pick_laws.specs.Journal.{on_at};
-ghost use Rattle.slot_laws.specs.Chains.{joins};
+ghost use Rattle.life_laws.specs.Journal.{on_at};
+ghost use Rattle.life_laws.specs.Chains.{joins};
 ghost use Rattle.slot_picks.specs.declared.slots.Slot.{Slot as SlotOf};
 ghost use Rattle.slot_picks.specs.Lives.{chains_of};
 ghost use Rattle.widget_host.specs.Housed.{BearsLife, GivesSwap, IsApart, IsHoused, IsWhole, KeepsOthers, chains, given, libraries, marked, names, swaps};

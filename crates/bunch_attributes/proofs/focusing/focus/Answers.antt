@@ -14,7 +14,7 @@ use Rattle.native_image.proofs.Joint.{image_shows, sound_stays}
 use Rattle.native_image.proofs.Keeping.{keeps_store}
 use Rattle.native_image.proofs.Lists.{element_in}
 use Rattle.native_image.proofs.Working.{at_ended, at_refused, gives_back}
-use Rattle.event_image.proofs.States.{focus_shows}
+use Rattle.page_image.proofs.States.{focus_shows}
 use Rattle.bunch_attributes.proofs.Changes.{sound_around}
 use Rattle.bunch_attributes.proofs.Focused.{focus_lift, focus_one, focus_other, holds_focus}
 use Rattle.native_image.specs.Handed.{parts}

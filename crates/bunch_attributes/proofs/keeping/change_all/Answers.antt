@@ -1,7 +1,7 @@
 use Rattle.std.proofs.Common.{subst, get_or}
 use Rattle.std.specs.List.{fold}
 use Rattle.widget_meaning.specs.BunchWrites.{change_kept}
-use Rattle.event_image.specs.Image.{Shows}
+use Rattle.page_image.specs.Around.{Shows}
 use Rattle.page_image.specs.Image.{number}
 use Rattle.native_image.proofs.Lists.{element_in, mapped_whole}
 use Rattle.bunch_attributes.specs.Kept.{meant}

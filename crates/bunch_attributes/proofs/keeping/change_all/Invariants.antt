@@ -3,7 +3,7 @@ use Rattle.std.specs.List.{fold}
 use Rattle.store_cells.specs.Cells.{Cells}
 use Rattle.widget_meaning.specs.BunchWrites.{change_kept}
 use Rattle.widget_meaning.specs.OwnState.{State}
-use Rattle.event_image.specs.Image.{Shows}
+use Rattle.page_image.specs.Around.{Shows}
 use Rattle.page_image.specs.Image.{number}
 use Rattle.native_image.specs.Sound.{HoldsOwn}
 use Rattle.bunch_attributes.specs.Kept.{IsFineChange, meant}

@@ -3,7 +3,7 @@ use Rattle.plain_tree.specs.Words.{is_event_type}
 use Rattle.store_cells.specs.Cells.{own_count}
 use Rattle.store_cells.specs.declared.value.Value.TheVariants as value
 use Rattle.widget_meaning.specs.BunchWrites.{alter_each, change_kept}
-use Rattle.event_image.specs.Image.{hushed}
+use Rattle.page_image.specs.Around.{hushed}
 use Rattle.js_image.specs.declared.outcome.Fault.TheVariants as fault
 use Rattle.js_image.specs.Image.{seen}
 use Rattle.page_image.specs.Image.{number}

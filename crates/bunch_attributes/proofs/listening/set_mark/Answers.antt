@@ -3,7 +3,7 @@ use Rattle.store_cells.specs.Cells.{own_count}
 use Rattle.store_cells.specs.declared.value.Value.TheVariants as value
 use Rattle.widget_meaning.specs.BunchWrites.{alter_each, change_kept, write_method}
 use Rattle.permitted_table.specs.declared.native.WriteNative.TheVariants.{SetMark}
-use Rattle.event_image.specs.Image.{marked}
+use Rattle.page_image.specs.Around.{marked}
 use Rattle.js_image.specs.declared.outcome.Fault.TheVariants as fault
 use Rattle.js_image.specs.Image.{seen}
 use Rattle.page_image.specs.Image.{number}

@@ -2,7 +2,7 @@ use Rattle.std.proofs.Common.{◌≡◌, ℕ, map, take, true}
 use Rattle.std.specs.List.{list_all}
 use Rattle.widget_meaning.specs.BunchReads.{has_open_parent}
 use Rattle.widget_meaning.specs.OwnState.{State}
-use Rattle.event_image.specs.Image.{Shows}
+use Rattle.page_image.specs.Around.{Shows}
 use Rattle.page_image.specs.Image.{number}
 use Rattle.bunch_read.proofs.finding.all_open.Given as goal
 

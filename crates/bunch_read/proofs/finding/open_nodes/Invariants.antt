@@ -1,6 +1,6 @@
 use Rattle.std.proofs.Common.{ℕ, take}
 use Rattle.widget_meaning.specs.OwnState.{State}
-use Rattle.event_image.specs.Image.{Shows}
+use Rattle.page_image.specs.Around.{Shows}
 use Rattle.bunch_read.specs.Finding.{Opens}
 use Rattle.bunch_read.proofs.finding.open_nodes.Given as goal
 

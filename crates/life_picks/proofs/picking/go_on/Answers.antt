@@ -1,7 +1,7 @@
 use Rattle.std.proofs.Common.{◌+◌, refl, subst, sym, arith, Option, Some}
 use Rattle.native_image.specs.Image.{Outside}
 use Rattle.life_laws.specs.Life.{Fixed, fixed}
-use Rattle.pick_laws.specs.declared.entry.Picked.TheVariants as picked
+use Rattle.life_laws.specs.declared.entry.Picked.TheVariants as picked
 use Rattle.turn_steps.specs.Moving.{FineRan, IsCutAt, IsEndedAt, RanTo}
 use Rattle.life_queue.specs.Turn.{Turn}
 use Rattle.life_queue.specs.Fine.{FineLife}

@@ -1,7 +1,7 @@
 use Rattle.std.proofs.Common.{sym, ap, ◌∙◌, subst}
-use Rattle.turn_returns.specs.Task.{Task}
-use Rattle.turn_returns.specs.Answered.{remaining}
-use Rattle.turn_returns.specs.Held.{FineTask}
+use Rattle.turn_dispatch.specs.Task.{Task}
+use Rattle.turn_dispatch.specs.Answered.{remaining}
+use Rattle.turn_dispatch.specs.Held.{FineTask}
 use Rattle.life_queue.proofs.works.call.Goals as goal
 
 pub returns-clause-plan : goal.returns-clause-plan

@@ -1,6 +1,6 @@
 use Rattle.std.proofs.Common.{[], ◌∷◌, ◌++◌, refl, sym, ◌∙◌, subst, arith}
 use Rattle.widget_meaning.specs.Alone.{library_plan}
-use Rattle.turn_returns.specs.level.Level.TheVariants as level
+use Rattle.turn_dispatch.specs.declared.level.Level.TheVariants as level
 use Rattle.life_laws.proofs.Begins.{library_begins, library_passes}
 use Rattle.life_queue.specs.declared.life.Life.{Life}
 use Rattle.life_queue.specs.declared.life.Work.TheVariants as work

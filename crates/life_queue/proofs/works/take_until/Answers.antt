@@ -2,8 +2,8 @@ use Rattle.std.proofs.Common.{◌≡◌, [], ◌+◌, ◌-◌, refl, sym, ap, �
 use Rattle.widget_meaning.specs.Items.{timer_plan}
 use Rattle.widget_meaning.proofs.Runs.{and_then_ret}
 use Rattle.store_cells.specs.Cells.{own_count}
-use Rattle.event_image.specs.Image.{timer_of}
-use Rattle.turn_returns.proofs.Stays.{own_held}
+use Rattle.page_image.specs.Around.{timer_of}
+use Rattle.turn_dispatch.proofs.Stays.{own_held}
 use Rattle.life_queue.specs.declared.life.Life.{Life}
 use Rattle.life_queue.specs.declared.life.Work.TheVariants as work
 use Rattle.life_queue.specs.Lives.{trees_in, work_of}

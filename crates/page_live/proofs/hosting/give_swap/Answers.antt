@@ -1,8 +1,8 @@
 use Rattle.std.proofs.Common.{◌≡◌, [], ◌∷◌, ◌++◌, Option, sym, ap, subst}
 use Rattle.std.specs.Prelude.{slice_index_or}
 use Rattle.trace_reader.specs.Said.{a_swap}
-use Rattle.round_laws.specs.Fed.{Fed}
-use Rattle.round_laws.specs.RoundLaws.{fed_at}
+use Rattle.life_laws.specs.Fed.{Fed}
+use Rattle.life_laws.specs.RoundLaws.{fed_at}
 use Rattle.page_plan.specs.Contents.{content_of}
 use Rattle.page_play.specs.Given.{begins, with_swap}
 use Rattle.page_play.specs.Housed.{fuels}

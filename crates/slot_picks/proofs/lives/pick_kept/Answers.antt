@@ -1,9 +1,9 @@
 use Rattle.std.proofs.Common.{◌≡◌, ◌∙◌, ◌++◌, List, [], ◌∷◌, refl, ap, Some, length}
 use Rattle.std.specs.Prelude.{slice_get}
 use Rattle.std.proofs.lemmas.Option.{slice_get_read}
-use Rattle.pick_laws.specs.declared.entry.PickEntry.{PickEntry}
-use Rattle.pick_laws.specs.Journal.{kept}
-use Rattle.pick_laws.proofs.Crowds.{kept_with}
+use Rattle.life_laws.specs.declared.entry.PickEntry.{PickEntry}
+use Rattle.life_laws.specs.Journal.{kept}
+use Rattle.life_laws.proofs.Crowds.{kept_with}
 use Rattle.slot_picks.proofs.Keeping.{keeps_here, keeps_journal}
 use Rattle.slot_picks.proofs.Picking.{on_err, same_accepted}
 use Rattle.slot_picks.proofs.Spending.{idle_kept, kept_idle}

@@ -2,7 +2,7 @@ use Rattle.std.proofs.Common.{◌≡◌, ◌∙◌, ap, refl, arith, Some, lengt
 use Rattle.std.specs.Prelude.{slice_get}
 use Rattle.std.proofs.lemmas.Option.{slice_get_read}
 use Rattle.life_laws.specs.Life.{Seen, image}
-use Rattle.pick_laws.proofs.Crowds.{same_some}
+use Rattle.life_laws.proofs.Crowds.{same_some}
 use Rattle.slot_picks.specs.Places.{lent}
 use Rattle.slot_picks.proofs.Others.{seen_life, seens_at}
 use Rattle.slot_picks.proofs.Picking.{fine_here}

@@ -1,6 +1,6 @@
 use Rattle.std.proofs.Common.{◌++◌, ap}
-use Rattle.pick_laws.specs.Journal.{ready_from}
-use Rattle.slot_laws.specs.Settled.{slot_flags}
+use Rattle.life_laws.specs.Journal.{ready_from}
+use Rattle.life_laws.specs.Settled.{slot_flags}
 use Rattle.slot_picks.specs.Lives.{chains_of, seens_of}
 use Rattle.slot_picks.proofs.Settles.{slot_here, slot_step}
 use Rattle.slot_picks.proofs.ready.fill_ready.Goals as goal

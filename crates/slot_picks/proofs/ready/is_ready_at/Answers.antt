@@ -1,8 +1,8 @@
 use Rattle.std.proofs.Common.{◌≡◌, ◌<◌, ◌∙◌, refl, arith, length, ap, Some, sym, subst, List, ℕ}
 use Rattle.std.specs.Prelude.{slice_get}
 use Rattle.std.proofs.lemmas.Option.{slice_get_read}
-use Rattle.slot_laws.specs.Slots.{Each, slot_ready}
-use Rattle.slot_laws.proofs.Passing.{each_map}
+use Rattle.life_laws.specs.Slots.{Each, slot_ready}
+use Rattle.life_laws.proofs.Passing.{each_map}
 use Rattle.slot_picks.specs.declared.lives.Place.{Place}
 use Rattle.slot_picks.specs.declared.slots.Slot.{Slot}
 use Rattle.slot_picks.specs.Lives.{seens_of}

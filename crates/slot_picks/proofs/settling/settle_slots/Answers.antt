@@ -1,11 +1,11 @@
 use Rattle.std.proofs.Common.{◌≡◌, ◌∙◌, ◌<◌, ℕ, [], sym, ap, refl, arith, length, subst, Some}
 use Rattle.std.specs.Prelude.{slice_get}
 use Rattle.std.proofs.lemmas.Option.{slice_get_read}
-use Rattle.pick_laws.proofs.Ready.{empty_of, rises_as}
-use Rattle.pick_laws.specs.Journal.{ready_from}
-use Rattle.slot_laws.specs.Chains.{Chains}
-use Rattle.slot_laws.specs.Settled.{slot_flags}
-use Rattle.slot_laws.proofs.Settling.{all_done, slots_lighter, slots_none, slots_on}
+use Rattle.life_laws.proofs.Ready.{empty_of, rises_as}
+use Rattle.life_laws.specs.Journal.{ready_from}
+use Rattle.life_laws.specs.Chains.{Chains}
+use Rattle.life_laws.specs.Settled.{slot_flags}
+use Rattle.life_laws.proofs.SlotsSettling.{all_done, slots_lighter, slots_none, slots_on}
 use Rattle.slot_picks.specs.Lives.{AreHoused, chains_of, no_pick, one_pick, seens_of}
 use Rattle.slot_picks.specs.Places.{homes_of}
 use Rattle.slot_picks.proofs.Housing.{lasts_picked}

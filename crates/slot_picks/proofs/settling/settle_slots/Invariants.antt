@@ -1,7 +1,7 @@
 use Rattle.std.proofs.Common.{◌≡◌, ℕ, ◌+◌, map}
-use Rattle.pick_laws.specs.Journal.{ready_from, weights}
-use Rattle.slot_laws.specs.Chains.{last_life}
-use Rattle.slot_laws.specs.Settled.{SettledSlots, slot_flags, waiting}
+use Rattle.life_laws.specs.Journal.{ready_from, weights}
+use Rattle.life_laws.specs.Chains.{last_life}
+use Rattle.life_laws.specs.Settled.{SettledSlots, slot_flags, waiting}
 use Rattle.slot_picks.specs.Lives.{AreHoused, FewLives, KeepsSlots, PicksOn, chains_of, seens_of}
 use Rattle.slot_picks.specs.Places.{homes_of}
 use Rattle.slot_picks.proofs.settling.settle_slots.Given as goal

@@ -2,13 +2,13 @@ use Rattle.std.proofs.Common.{◌≡◌, ◌<◌, ◌∙◌, refl, sym, arith, l
 use Rattle.std.specs.Prelude.{slice_get}
 use Rattle.std.proofs.lemmas.Option.{slice_get_read}
 use Rattle.life_laws.specs.Life.{Seen}
-use Rattle.slot_laws.specs.Chains.{PickedIn}
-use Rattle.slot_laws.specs.Slots.{Passed}
-use Rattle.slot_laws.proofs.Passing.{passed_none}
+use Rattle.life_laws.specs.Chains.{PickedIn}
+use Rattle.life_laws.specs.Slots.{Passed}
+use Rattle.life_laws.proofs.Passing.{passed_none}
 use Rattle.slot_picks.specs.Lives.{chains_of, seens_of}
 use Rattle.slot_picks.specs.Places.{homes_of}
 use Rattle.slot_picks.proofs.Housing.{housed_picked}
-use Rattle.slot_picks.proofs.Looping.{beside_slot, chain_there, chains_here, chains_next, is_there, lives_at, lives_here, lives_next, lives_there, more_left, one_left, present_is, same_journal, shorter, slot_done, slot_on, two_left}
+use Rattle.slot_picks.proofs.Following.{beside_slot, chain_there, chains_here, chains_next, is_there, lives_at, lives_here, lives_next, lives_there, more_left, one_left, present_is, same_journal, shorter, slot_done, slot_on, two_left}
 use Rattle.slot_picks.proofs.Picking.{on_err}
 use Rattle.slot_picks.proofs.Slotted.{names_many, slots_here, slots_picked, slots_then}
 use Rattle.slot_picks.proofs.slots.pick_slot.Goals as goal

@@ -1,8 +1,8 @@
 use Rattle.std.proofs.Common.{◌≡◌, ℕ, ◌<◌, length}
 use Rattle.std.specs.Prelude.{slice_set}
-use Rattle.slot_laws.specs.Slots.{Passed}
+use Rattle.life_laws.specs.Slots.{Passed}
 use Rattle.slot_picks.specs.Lives.{FewLives, FineLives, KeepsSlots, chains_of, seens_of}
-use Rattle.slot_picks.proofs.Looping.{lives_at}
+use Rattle.slot_picks.proofs.Following.{lives_at}
 use Rattle.slot_picks.proofs.slots.pick_slot.Given as goal
 
 abbrev pub invariant-swaps : goal.invariant-swaps

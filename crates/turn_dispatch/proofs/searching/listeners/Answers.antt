@@ -3,8 +3,8 @@ use Rattle.page_tree.specs.Pages.{nodes}
 use Rattle.page_image.specs.Image.{number}
 use Rattle.page_image.proofs.Results.{if_ok_then}
 use Rattle.event_loop.specs.Deliveries.{found_of, most, nearest}
-use Rattle.event_image.specs.Image.{own_found}
-use Rattle.event_image.proofs.Going.{found_image, is_one}
+use Rattle.page_image.specs.Around.{own_found}
+use Rattle.page_image.proofs.Going.{found_image, is_one}
 use Rattle.turn_dispatch.proofs.Listening.{all_own}
 use Rattle.turn_dispatch.proofs.searching.listeners.Goals as goal
 

@@ -1,5 +1,5 @@
 use Rattle.page_image.proofs.Pages.{is_widget}
-use Rattle.event_image.proofs.Going.{root_is, root_there}
+use Rattle.page_image.proofs.Going.{root_is, root_there}
 use Rattle.turn_dispatch.proofs.searching.root_of.Goals as goal
 
 pub root_of-requires : goal.root_of-requires

@@ -1,7 +1,7 @@
 use Rattle.std.proofs.Common.{List, [], ◌∷◌, ◌++◌, ap, ◌∙◌, refl}
 use Rattle.turn_dispatch.specs.declared.level.Level.{Level}
 use Rattle.turn_dispatch.specs.declared.level.Level.TheVariants as level
-use Rattle.turn_returns.proofs.Kept.{sound_same}
+use Rattle.turn_dispatch.proofs.Kept.{sound_same}
 use Rattle.turn_steps.specs.Turning.{forests}
 use Rattle.turn_steps.proofs.Answering.{fire_answered, fired_fine}
 use Rattle.turn_steps.proofs.Kept.{keeps_sound}

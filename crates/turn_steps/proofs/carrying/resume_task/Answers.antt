@@ -2,11 +2,11 @@ use Rattle.std.proofs.Common.{ℕ, ◌<◌, ap, ◌∙◌, refl, subst, sym}
 use Rattle.js_flow.specs.declared.task.Control.TheVariants as control
 use Rattle.js_flow.specs.Free.{free}
 use Rattle.js_image.specs.Held.{Kept}
-use Rattle.js_steps.specs.declared.task.Task.{Task}
-use Rattle.js_steps.specs.Answered.{IsFineAfter, IsFineTask}
+use Rattle.turn_dispatch.specs.Task.{Task}
+use Rattle.turn_dispatch.specs.Answered.{IsFineAfter, IsFineTask}
 use Rattle.native_image.proofs.Joint.{sound_grows}
 use Rattle.page_image.specs.Image.{number, owns}
-use Rattle.turn_returns.proofs.Stays.{levels_fine}
+use Rattle.turn_dispatch.proofs.Stays.{levels_fine}
 use Rattle.turn_steps.specs.Turning.{forests}
 use Rattle.turn_steps.proofs.Answering.{plan_told, resume_answered, waits}
 use Rattle.turn_steps.proofs.Kept.{keeps_kept, keeps_sound, keeps_then}

@@ -4,7 +4,7 @@ use Rattle.js_flow.specs.Todo.{Moves}
 use Rattle.natives.specs.Reach.{with_notes}
 use Rattle.turn_dispatch.specs.declared.level.Doing.{Doing}
 use Rattle.turn_dispatch.specs.Held.{FineDoing}
-use Rattle.turn_returns.specs.Weights.{doing_free}
+use Rattle.turn_dispatch.specs.Weights.{doing_free}
 use Rattle.turn_steps.specs.Steps.{IsMoved, doing_in, is_open, runs}
 use Rattle.turn_steps.specs.Turning.{forests, state_in}
 use Rattle.turn_steps.proofs.Kept.{keeps_same}

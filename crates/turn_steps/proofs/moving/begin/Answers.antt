@@ -7,7 +7,7 @@ use Rattle.widget_meaning.specs.Dispatch.{dispatch_end, handlers}
 use Rattle.widget_meaning.specs.Plan as plan
 use Rattle.widget_meaning.specs.Plan.{Do, Ret, after, and_then}
 use Rattle.widget_meaning.proofs.Runs.{and_then_assoc}
-use Rattle.js_steps.specs.Answered.{remaining}
+use Rattle.turn_dispatch.specs.Answered.{remaining}
 use Rattle.native_image.specs.Image.{beside}
 use Rattle.native_image.proofs.Joint.{rest}
 use Rattle.turn_dispatch.specs.declared.level.Hearing.{Hearing}
@@ -15,11 +15,11 @@ use Rattle.turn_dispatch.specs.declared.level.Level.{Level}
 use Rattle.turn_dispatch.specs.declared.level.Level.TheVariants as level
 use Rattle.turn_dispatch.specs.Held.{FineHearing}
 use Rattle.turn_dispatch.specs.Levels.{functions_of, hearing_of, levels_rest}
-use Rattle.turn_returns.specs.Turns.{bubbled_of, outside_of, turn_image}
-use Rattle.turn_returns.specs.Waiting.{FineLevels}
-use Rattle.turn_returns.specs.Weights.{levels_free}
-use Rattle.turn_returns.proofs.Stays.{fine_push, levels_last}
-use Rattle.turn_returns.proofs.Taken.{free_last}
+use Rattle.turn_dispatch.specs.Turns.{bubbled_of, outside_of, turn_image}
+use Rattle.turn_dispatch.specs.Waiting.{FineLevels}
+use Rattle.turn_dispatch.specs.Weights.{levels_free}
+use Rattle.turn_dispatch.proofs.Stays.{fine_push, levels_last}
+use Rattle.turn_dispatch.proofs.Taken.{free_last}
 use Rattle.turn_steps.proofs.Moved.{first_function, moves_alike, moves_is}
 use Rattle.turn_steps.proofs.moving.begin.Goals as goal
 

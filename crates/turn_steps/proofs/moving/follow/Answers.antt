@@ -5,12 +5,12 @@ use Rattle.js_flow.specs.declared.task.Control.{Control}
 use Rattle.js_flow.specs.Fine.{FineStepped}
 use Rattle.js_flow.specs.Free.{free}
 use Rattle.js_flow.specs.Todo.{Follows, after_step}
-use Rattle.js_steps.specs.declared.answer.Stepped.{Stepped}
-use Rattle.js_steps.specs.Answered.{machine}
-use Rattle.js_steps.specs.Ending.{EndsCall}
+use Rattle.turn_dispatch.specs.Stepped.{Stepped}
+use Rattle.turn_dispatch.specs.Answered.{machine}
+use Rattle.turn_dispatch.specs.Ending.{EndsCall}
 use Rattle.turn_dispatch.specs.Levels.{levels_rest}
-use Rattle.turn_returns.specs.Turns.{turn_image}
-use Rattle.turn_returns.proofs.Kept.{sound_same}
+use Rattle.turn_dispatch.specs.Turns.{turn_image}
+use Rattle.turn_dispatch.proofs.Kept.{sound_same}
 use Rattle.turn_steps.proofs.Followed.{stop_followed}
 use Rattle.turn_steps.proofs.moving.follow.Goals as goal
 

@@ -7,11 +7,11 @@ use Rattle.js_flow.specs.Todo.{Follows, IsGoing, Strides}
 use Rattle.js_values.specs.Answers.{out_of_fuel}
 use Rattle.js_values.specs.Fuel.{Fuel}
 use Rattle.native_image.specs.Image.{Outside}
-use Rattle.js_steps.specs.declared.task.Task.{Task}
-use Rattle.js_steps.specs.Answered.{IsFineAfter, IsFineTask, machine, remaining, remaining_after}
+use Rattle.turn_dispatch.specs.Task.{Task}
+use Rattle.turn_dispatch.specs.Answered.{IsFineAfter, IsFineTask, machine, remaining, remaining_after}
 use Rattle.turn_dispatch.specs.declared.level.Doing.{Doing}
 use Rattle.turn_dispatch.specs.declared.level.Doing.TheVariants as doing
-use Rattle.turn_returns.specs.Weights.{doing_free}
+use Rattle.turn_dispatch.specs.Weights.{doing_free}
 use Rattle.turn_steps.specs.Steps.{IsFollowed, IsStepped, doing_in}
 use Rattle.turn_steps.specs.Turning.{forests, state_in}
 use Rattle.turn_steps.proofs.Followed.{short_followed}

@@ -1,8 +1,8 @@
 use Rattle.std.proofs.Common.{take}
 use Rattle.std.specs.Prelude.{nat_eq}
 use Rattle.std.specs.List.{list_any}
-use Rattle.life_queue.specs.declared.life.Work.TheVariants as work
-use Rattle.slot_laws.specs.Chains.{last_life}
+use Rattle.slot_picks.specs.life.Work.TheVariants as work
+use Rattle.life_laws.specs.Chains.{last_life}
 use Rattle.slot_picks.specs.Lives.{chains_of}
 use Rattle.widget_host.specs.Feeding.{AreFed, AreSame}
 use Rattle.widget_host.proofs.giving.feed_all.Given as goal

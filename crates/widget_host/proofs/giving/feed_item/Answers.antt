@@ -2,8 +2,8 @@ use Rattle.std.proofs.Common.{◌≡◌, ◌+◌, ◌<◌, ◌∙◌, ℕ, List,
 use Rattle.std.specs.Prelude.{slice_get}
 use Rattle.std.proofs.lemmas.Option.{slice_get_read}
 use Rattle.std.proofs.lemmas.Result.{on_ok_weaker}
-use Rattle.life_queue.specs.declared.life.Work.TheVariants as work
-use Rattle.slot_laws.specs.Chains.{last_life}
+use Rattle.slot_picks.specs.life.Work.TheVariants as work
+use Rattle.life_laws.specs.Chains.{last_life}
 use Rattle.slot_picks.specs.declared.slots.Slot.{Slot}
 use Rattle.slot_picks.specs.Lives.{chains_of}
 use Rattle.slot_picks.specs.Places.{homes_of}

@@ -1,6 +1,6 @@
 use Rattle.std.proofs.Common.{length, refl}
 use Rattle.std.proofs.lemmas.Option.{slice_get_read}
-use Rattle.slot_laws.specs.Chains.{joins}
+use Rattle.life_laws.specs.Chains.{joins}
 use Rattle.slot_picks.specs.declared.slots.Slot.{Slot}
 use Rattle.widget_host.proofs.Sets.{map_on, map_still, on_err}
 use Rattle.widget_host.proofs.swapping.join.Goals as goal

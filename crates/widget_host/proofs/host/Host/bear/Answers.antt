@@ -3,8 +3,8 @@ use Rattle.std.specs.Prelude.{slice_get}
 use Rattle.std.proofs.lemmas.List.{length-map}
 use Rattle.std.proofs.lemmas.Option.{slice_get_read}
 use Rattle.std.proofs.lemmas.Result.{on_ok_weaker}
-use Rattle.pick_laws.specs.Journal.{on_at}
-use Rattle.slot_laws.specs.Chains.{joins, last_at}
+use Rattle.life_laws.specs.Journal.{on_at}
+use Rattle.life_laws.specs.Chains.{joins, last_at}
 use Rattle.page_load.specs.Joining.{HasSeat, IsFree, KeepsRest}
 use Rattle.slot_picks.specs.declared.slots.Slot.{Slot}
 use Rattle.slot_picks.specs.Lives.{chains_of}

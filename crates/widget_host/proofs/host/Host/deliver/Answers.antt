@@ -3,8 +3,8 @@ use Rattle.std.specs.List.{IsDistinct}
 use Rattle.std.specs.Str.{bytes_eq}
 use Rattle.slot_picks.specs.declared.slots.Slot.{Slot}
 use Rattle.slot_picks.specs.Lives.{chains_of}
-use Rattle.slot_rounds.specs.Feeding.{is_last}
-use Rattle.slot_rounds.proofs.Seen.{seen_same}
+use Rattle.slot_picks.specs.Feeding.{is_last}
+use Rattle.slot_picks.proofs.Seen.{seen_same}
 use Rattle.widget_host.specs.declared.host.Host.{Host}
 use Rattle.widget_host.specs.Housed.{chains, channels, names, seens, told}
 use Rattle.widget_host.proofs.Passed.{holds_all}

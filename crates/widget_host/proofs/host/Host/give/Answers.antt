@@ -1,12 +1,12 @@
 use Rattle.std.proofs.Common.{◌≡◌, ◌≤◌, ◌+◌, ◌∙◌, ℕ, List, ap, arith, false, length, refl, subst, sym, true}
 use Rattle.std.proofs.lemmas.List.{length-map}
-use Rattle.slot_laws.specs.Chains.{Chains}
+use Rattle.life_laws.specs.Chains.{Chains}
 use Rattle.slot_picks.specs.declared.slots.Slot.{Slot}
 use Rattle.slot_picks.specs.Lives.{chains_of}
 use Rattle.slot_picks.specs.declared.lives.Place.{Place}
 use Rattle.slot_picks.specs.Places.{homes_of, told_of}
-use Rattle.slot_rounds.specs.Feeding.{sum_of}
-use Rattle.slot_rounds.proofs.Seen.{images_alike}
+use Rattle.slot_picks.specs.Feeding.{sum_of}
+use Rattle.slot_picks.proofs.Seen.{images_alike}
 use Rattle.widget_host.specs.declared.host.Host.{Host}
 use Rattle.widget_host.specs.Feeding.{AreFed, work_of}
 use Rattle.widget_host.specs.Housed.{IsHoused, IsItem, IsWhole, chains, given, is_for, journal, marked, seens, shared, swaps, told}

@@ -1,7 +1,7 @@
 use Rattle.std.proofs.Common.{◌≡◌, ℕ, false, true, List, [], ◌∷◌, ap, map}
 use Rattle.std.proofs.lemmas.Result.{on_ok_weaker}
 use Rattle.life_laws.specs.Life.{due, image}
-use Rattle.slot_laws.specs.Chains.{last_life}
+use Rattle.life_laws.specs.Chains.{last_life}
 use Rattle.widget_host.specs.Housed.{chains, dues_after, given, queued, seens, unqueued}
 use Rattle.widget_host.proofs.Passed.{err_not_ok}
 use Rattle.widget_host.proofs.Staying.{host_then, ok_then}

@@ -1,6 +1,6 @@
 use Rattle.std.proofs.Common.{◌≡◌, ◌∙◌, ap, false, sym, true}
 use Rattle.std.proofs.lemmas.Result.{IfOk-weaker}
-use Rattle.state_reach.specs.States.{cert_of_states}
+use Rattle.slot_reach.specs.States.{cert_of_states}
 use Rattle.widget_host.specs.Housed.{IsHoused, chains, marked, names}
 use Rattle.widget_host.specs.Reached.{reached}
 use Rattle.widget_host.proofs.Reached.{few_slots, shown_are}

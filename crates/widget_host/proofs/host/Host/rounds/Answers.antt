@@ -1,6 +1,6 @@
 use Rattle.std.proofs.Common.{◌≡◌, ◌∙◌, ap, arith, false, refl, subst, sym, true}
-use Rattle.slot_rounds.proofs.Looping.{settled_shows}
-use Rattle.slot_rounds.specs.Feeding.{sum_of}
+use Rattle.slot_picks.proofs.Looping.{settled_shows}
+use Rattle.slot_picks.specs.Feeding.{sum_of}
 use Rattle.widget_host.specs.Housed.{IsHoused, chains, marked, seens, told}
 use Rattle.widget_host.specs.Rounds.{in_round, one_round}
 use Rattle.widget_host.proofs.Rounding.{GivesPosts}

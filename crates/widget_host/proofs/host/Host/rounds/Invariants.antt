@@ -1,5 +1,5 @@
 use Rattle.std.proofs.Common.{◌≡◌, ◌-◌, [], true}
-use Rattle.slot_rounds.specs.Feeding.{sum_of}
+use Rattle.slot_picks.specs.Feeding.{sum_of}
 use Rattle.widget_host.specs.Housed.{IsHoused, channels, marked, told}
 use Rattle.widget_host.proofs.Ways.{OnWay}
 use Rattle.widget_host.proofs.host.Host.rounds.Given as goal

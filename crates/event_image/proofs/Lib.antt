@@ -1,4 +1,0 @@
-pub mod Events
-pub mod Going
-pub mod States
-pub mod Growth

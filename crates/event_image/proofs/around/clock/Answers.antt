@@ -1,5 +1,0 @@
-use Rattle.std.proofs.Common.{sym, ◌∙◌}
-use Rattle.event_image.proofs.around.clock.Goals as goal
-
-pub returns : goal.returns
-returns c = λ g o shows. c.clock.ensures ∙ sym shows.time

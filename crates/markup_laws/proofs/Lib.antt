@@ -1,7 +1,0 @@
-pub mod Signs
-pub mod Texts
-pub mod Chars
-pub mod Parts
-pub mod Law
-pub mod Forms
-mod Examples

@@ -1,5 +1,0 @@
-pub mod Picks
-pub mod Journal
-pub mod Asked
-pub mod Order
-pub mod PickLaws

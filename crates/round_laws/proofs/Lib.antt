@@ -1,4 +1,0 @@
-pub mod Rounding
-pub mod Ending
-pub mod Parting
-pub mod LawsHold

@@ -1,5 +1,0 @@
-use Rattle.slot_rounds.proofs.Untold.{untold_is}
-use Rattle.slot_rounds.proofs.posting.untold.Goals as goal
-
-pub returns : goal.returns
-returns c = untold_is c.args.told 256 c.min-end.result c.min-start.result c.args.kept.now c.min-end.ensures c.min-start.ensures

@@ -1,5 +1,0 @@
-mod Counted
-mod Steps
-mod Named
-mod Nodes
-pub mod Owning

@@ -1,3 +1,0 @@
-pub mod Twins
-pub mod Lived
-pub mod Paged
