@@ -10,7 +10,8 @@ use Rattle.serde_json.specs.declared.value.Value.{Value}
 use Rattle.json_shapes.specs.Each.{Each, none_left}
 use Rattle.trace_reader.specs.Items.{IsItem, is_swap}
 use Rattle.json_shapes.specs.Json.{judged_version}
-use Rattle.trace_reader.specs.Trace.{AreGood, IsLongestGood, IsItemsFault, IsValueFault}
+use Rattle.json_lengths.specs.Lengths.{HasLengthOver}
+use Rattle.trace_reader.specs.Trace.{AreGood, IsLongestGood, IsItemsFault, IsValueFault, IsTraceFault}
 use Rattle.json_shapes.specs.declared.fault.ShapeFault.{ShapeFault}
 use Rattle.json_shapes.specs.declared.fault.ShapeFault.TheVariants.{NotJson, BadShape, TooMany, Memory}
 use Rattle.json_shapes.specs.Look.{list_at}
@@ -140,3 +141,9 @@ pass_fault names d ds (BadShape item) list few is =
           omega arith);
       place = subst (λ o. MatchOption o (item ≡ 0) (λ entries. IsLongestGood (judged_version d) names entries item)) list is.1;
     }
+
+-- a list that is told to be too long
+pub too_many : (bytes : List ℕ) (names : List (List ℕ)) (n : ℕ) → HasLengthOver bytes (codes "items") 4096 n → IsTraceFault bytes names (TooMany n)
+too_many bytes names n over =
+    let list = over.list in
+    (over.value, over.json, record { entries = list.entries; list = list.list; count = list.count; many = over.many })

@@ -8,6 +8,7 @@ ghost use Rattle.trace_reader.specs.Trace.{most_items, IsTrace, IsItemsFault, Is
 
 use crate::item::{TraceItem, read_item};
 use code_units::Text;
+use json_lengths::length_over;
 use json_shapes::{
     Misfit, ShapeFault, has_key, has_only, has_version, judged_version, list_at, read_json,
 };
@@ -92,6 +93,10 @@ pub fn read_trace(alloc: Global, bytes: &[u8], names: &[Text]) -> Result<Vec<Tra
     ensures ok { IfOk result (λ items. ReadsTrace bytes.now names.now items.items) }
     ensures err { IfErr result (IsTraceFault bytes.now names.now) }
 {
+    // A list that is too long is told without its value, which would take a hundred times its bytes.
+    if let Some(items) = length_over(alloc, bytes, "items", MOST_ITEMS)? {
+        return Err(ShapeFault::TooMany { items });
+    }
     let value = read_json(alloc, bytes)?;
     read_value(alloc, &value, names)
 }

@@ -1,0 +1,3 @@
+pub mod Deeper
+pub mod Found
+pub mod Exceeding
